@@ -1,0 +1,6 @@
+pub mod Numbers
+pub mod Fronts
+pub mod Sounds
+pub mod Completes
+pub mod Items
+pub mod Accepts

@@ -1,0 +1,11 @@
+pub mod Tree
+pub mod Bytes
+pub mod Layout
+pub mod Folds
+pub mod Scope
+pub mod Limits
+pub mod Front
+pub mod Reading
+pub mod Declarations
+pub mod Packages
+pub mod Law
