@@ -1,5 +1,6 @@
 pub mod Numbers
 pub mod Fronts
+pub mod Sizes
 pub mod Sounds
 pub mod Completes
 pub mod Items

@@ -85,11 +85,17 @@ nothing = record { parties = []; inputs = []; cells = []; tables = []; needs = [
 abbrev pub places : Contents → ℕ
 places s = length (s .inputs) + length (s .cells)
 
+abbrev pub heightsOf : List Procedure → List ℕ
+heightsOf ps = map (λ (p : Procedure). p .height) ps
+
+abbrev pub stepsOf : List Procedure → List ℕ
+stepsOf ps = map (λ (p : Procedure). p .steps) ps
+
 abbrev pub heights : Contents → List ℕ
-heights s = map (λ (p : Procedure). p .height) (s .procedures)
+heights s = heightsOf (s .procedures)
 
 abbrev pub bodySteps : Contents → List ℕ
-bodySteps s = map (λ (p : Procedure). p .steps) (s .procedures)
+bodySteps s = stepsOf (s .procedures)
 
 -- what the next procedure may name
 abbrev pub scope : Contents → Scope

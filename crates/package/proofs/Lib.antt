@@ -1,0 +1,3 @@
+pub mod Mapped
+pub mod Steps
+pub mod Turns

@@ -1,0 +1,3 @@
+// Rule packages, loaded or refused.
+mod bodies;
+pub mod refusal;
