@@ -31,7 +31,7 @@ pub unmet : {C : Type 0} (k n : ℕ) (bs : List ℕ) (f : Front C) → length bs
 unmet k n bs f h = cond-false _ _ _ (lt-leb n (length bs) h)
 
 -- one test of a first byte
-by-byte : {C : Type 0} (P : Front C → Type 0) (op k : ℕ) (f g : Front C) → (op ≡ k → P f) → ((op ≡ k → ⊥) → P g) → P (cond (eqb op k) f g)
+pub by-byte : {C : Type 0} (P : Front C → Type 0) (op k : ℕ) (f g : Front C) → (op ≡ k → P f) → ((op ≡ k → ⊥) → P g) → P (cond (eqb op k) f g)
 by-byte P op k f g h i = cond-both (eqb op k) f g P (λ e. h (eqb-true op k e)) (λ e. i (eqb-false op k e))
 
 abbrev Is : Front Flat → Front Flat → Type 0

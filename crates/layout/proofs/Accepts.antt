@@ -6,7 +6,7 @@ use Prim.Native.Nat.{ℕ, zero, suc, _+_, _≤_, _<_}
 use native.Mathlib.Omega.{arith}
 use lib.Dec.{eqb, leb, ltb}
 use lib.ListN.{length, length-append}
-use Rattle.std.proofs.shelf.Tests.{cond-both, cond-true, cond-false, leb-true, le-leb, ltb-true, eqb-true, ne-eqb, and-parts, and-from}
+use Rattle.std.proofs.shelf.Tests.{cond-both, cond-true, cond-false, leb-true, le-leb, ltb-true, eqb-true, ne-eqb, and-parts, and-from, both-ways}
 use Rattle.layout.specs.Tree.{Block}
 use Rattle.layout.specs.Bytes.{Bytes}
 use Rattle.layout.specs.Layout.{encodeB}
@@ -14,7 +14,7 @@ use Rattle.layout.specs.Limits.{Sound}
 use Rattle.layout.specs.Front.{Front, got, bad}
 use Rattle.layout.specs.Reading.{Got, ok, fault, andThen, demand, readBody}
 use Rattle.layout.specs.Declarations.{Simple, Declaration, SIMPLE, PROC, Item, simple, proc, itemBytes, item, lead, procHead, Contents, nothing, scope, declare}
-use Rattle.layout.specs.Packages.{room, known, filled, brief, SoundBody, Keep, KeepAll, encode, Keeps, byLead, bodied, declaration, finish, nextItem, leads, readAll, readPackage}
+use Rattle.layout.specs.Packages.{room, known, filled, brief, SoundBody, Keep, KeepAll, encode, Keeps, byLead, bodied, declaration, finish, nextItem, leads, readAll, readPackage, wasRead, declared, accepts, declarations}
 use Rattle.layout.specs.Law.{AcceptedExactly}
 use Rattle.layout.proofs.Numbers.{bytes-left, bytes-right}
 use Rattle.layout.proofs.Fronts.{True}
@@ -147,3 +147,16 @@ accepted-exactly bs ds small = (
     complete h =
         passes (leb (length (encode ds)) 8192) 1 0 _ _ (le-leb (length (encode ds)) 8192 (h .small))
         (all-complete ds (length (encode ds) + 1) nothing 0 0 (omega arith) (omega arith) (h .each))
+
+-- what is accepted is read as its declarations
+pub accepts-read : (bs : List ℕ) (ds : List Declaration) → readPackage bs ≡ ok ds → (accepts bs ≡ true) × (declarations bs ≡ ds)
+unfolding accepts declarations
+accepts-read bs ds e = (ap wasRead e, ap declared e)
+
+pub read-accepted : (bs : List ℕ) → accepts bs ≡ true → readPackage bs ≡ ok (declarations bs)
+unfolding accepts declarations
+read-accepted bs h = known (readPackage bs) h
+  where
+    known : (g : Got (List Declaration)) → wasRead g ≡ true → g ≡ ok (declared g)
+    known (ok ds) h = refl
+    known (fault n o) h = absurd (both-ways false refl h)

@@ -1,6 +1,7 @@
 pub mod Numbers
 pub mod Fronts
 pub mod Sizes
+pub mod Heights
 pub mod Sounds
 pub mod Completes
 pub mod Items

@@ -1,6 +1,6 @@
 -- A package: declarations in a row, each under those before it. Its layout, its limits, and how it is read.
 use mathlib.Core.Path.{_≡_}
-use mathlib.Core.Bool.{Bool, true, not, _&&_, cond}
+use mathlib.Core.Bool.{Bool, true, false, not, _&&_, cond}
 use mathlib.Core.List.{List, [], _∷_, _++_}
 use Prim.Native.Nat.{ℕ, zero, suc, _+_, _≤_}
 use lib.Dec.{eqb, leb, ltb}
@@ -162,3 +162,22 @@ readAll (suc f) s at latest (op ∷ bs) =
 -- a package of at most 8,192 bytes
 abbrev pub readPackage : List ℕ → Got (List Declaration)
 readPackage bs = demand (leb (length bs) 8192) 1 0 (readAll (length bs + 1) nothing 0 0 bs)
+
+-- whether bytes are accepted, and the declarations of those that are
+abbrev pub wasRead : {A : Type 0} → Got A → Bool
+wasRead (ok a) = true
+wasRead (fault n o) = false
+
+abbrev pub declared : Got (List Declaration) → List Declaration
+declared (ok ds) = ds
+declared (fault n o) = []
+
+unfoldable pub accepts : List ℕ → Bool
+accepts bs = wasRead (readPackage bs)
+
+unfoldable pub declarations : List ℕ → List Declaration
+declarations bs = declared (readPackage bs)
+
+-- what the declarations of bytes add up to
+unfoldable pub held : List ℕ → Contents
+held bs = contents (declarations bs)

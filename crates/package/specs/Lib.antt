@@ -1,2 +1,5 @@
 pub mod Holds
 pub mod Walks
+pub mod Items
+pub mod Declares
+pub mod Loads

@@ -5,7 +5,7 @@ ghost use lib.ListN.{length, getD};
 ghost use Rattle.std.specs.Of.Vec.{vec-items, vec-len};
 ghost use Rattle.layout.specs.Tree.{Choice};
 ghost use Rattle.layout.specs.Layout.{commandBytes, choose as flatChoose, choiceHead};
-ghost use Rattle.layout.specs.Scope.{turns as flatTurns, named, targets, low, blocks as blockCount, plainNamed, plainTargets};
+ghost use Rattle.layout.specs.Scope.{turns as flatTurns, named, targets, low, blocks as blockCount, plainNamed, plainTargets, place as isPlace, table as isTable, device as isDevice, cell as isCell};
 ghost use Rattle.layout.specs.Limits.{Kept};
 ghost use Rattle.layout.specs.Declarations.{heightsOf, stepsOf};
 ghost use Rattle.commands.specs.Reads.{plainOf, flatOf, unread as unreadNumber};
@@ -23,10 +23,10 @@ use layout::Span;
 // The places below `inputs` are inputs.
 #[derive(Clone, Copy)]
 pub(crate) struct Scope<'a> {
-    pub(crate) inputs: u8,
-    pub(crate) places: u8,
-    pub(crate) tables: u8,
-    pub(crate) devices: u8,
+    pub(crate) inputs: usize,
+    pub(crate) places: usize,
+    pub(crate) tables: usize,
+    pub(crate) devices: usize,
     pub(crate) procedures: &'a [Procedure],
 }
 
@@ -45,30 +45,56 @@ pub(crate) struct Cost {
     pub(crate) highest: u8,
 }
 
+impl Scope<'_> {
+    fn has_place(self, place: u8) -> bool
+        ensures { λ r. ⌜ r ≡ isPlace (scopeOf (self .entry)) place ⌝ }
+    {
+        usize::from(place) < self.places
+    }
+
+    fn has_table(self, table: u8) -> bool
+        ensures { λ r. ⌜ r ≡ isTable (scopeOf (self .entry)) table ⌝ }
+    {
+        usize::from(table) < self.tables
+    }
+
+    fn has_device(self, device: u8) -> bool
+        ensures { λ r. ⌜ r ≡ isDevice (scopeOf (self .entry)) device ⌝ }
+    {
+        usize::from(device) < self.devices
+    }
+
+    fn is_no_input(self, place: u8) -> bool
+        ensures { λ r. ⌜ r ≡ isCell (scopeOf (self .entry)) place ⌝ }
+    {
+        self.inputs <= usize::from(place)
+    }
+}
+
 // Whether every number that a plain command uses is declared.
 fn plain_declared<'a>(plain: Plain, scope: Scope<'a>) -> bool
     ensures { λ r. ⌜ r ≡ plainNamed (scopeOf (scope .entry)) (plainOf plain) ⌝ }
 {
     match plain {
-        Plain::Set { target, value: _ } => target < scope.places,
-        Plain::Copy { target, source } => target < scope.places && source < scope.places,
+        Plain::Set { target, value: _ } => scope.has_place(target),
+        Plain::Copy { target, source } => scope.has_place(target) && scope.has_place(source),
         Plain::Combine {
             operation: _,
             target,
             left,
             right,
-        } => target < scope.places && left < scope.places && right < scope.places,
+        } => scope.has_place(target) && scope.has_place(left) && scope.has_place(right),
         Plain::Pick {
             target,
             table,
             index,
-        } => target < scope.places && table < scope.tables && index < scope.places,
+        } => scope.has_place(target) && scope.has_table(table) && scope.has_place(index),
         Plain::Put {
             table,
             index,
             source,
-        } => table < scope.tables && index < scope.places && source < scope.places,
-        Plain::Drive { device, source } => device < scope.devices && source < scope.places,
+        } => scope.has_table(table) && scope.has_place(index) && scope.has_place(source),
+        Plain::Drive { device, source } => scope.has_device(device) && scope.has_place(source),
     }
 }
 
@@ -82,12 +108,12 @@ fn declared<'a, 'b>(command: Command<'a>, scope: Scope<'b>) -> bool
             place,
             first: _,
             second: _,
-        } => place < scope.places,
+        } => scope.has_place(place),
         Command::Loop {
             place,
             times: _,
             body: _,
-        } => place < scope.places,
+        } => scope.has_place(place),
         Command::Grant { frame: _, body: _ } => true,
         Command::Call { procedure } => usize::from(procedure) < scope.procedures.len(),
         Command::Try {
@@ -95,7 +121,7 @@ fn declared<'a, 'b>(command: Command<'a>, scope: Scope<'b>) -> bool
             place,
             first: _,
             second: _,
-        } => place < scope.places,
+        } => scope.has_place(place),
     }
 }
 
@@ -104,19 +130,19 @@ fn plain_spares_inputs<'a>(plain: Plain, scope: Scope<'a>) -> bool
     ensures { λ r. ⌜ r ≡ plainTargets (scopeOf (scope .entry)) (plainOf plain) ⌝ }
 {
     match plain {
-        Plain::Set { target, value: _ } => scope.inputs <= target,
-        Plain::Copy { target, source: _ } => scope.inputs <= target,
+        Plain::Set { target, value: _ } => scope.is_no_input(target),
+        Plain::Copy { target, source: _ } => scope.is_no_input(target),
         Plain::Combine {
             operation: _,
             target,
             left: _,
             right: _,
-        } => scope.inputs <= target,
+        } => scope.is_no_input(target),
         Plain::Pick {
             target,
             table: _,
             index: _,
-        } => scope.inputs <= target,
+        } => scope.is_no_input(target),
         Plain::Put {
             table: _,
             index: _,
