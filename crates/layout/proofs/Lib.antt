@@ -6,3 +6,4 @@ pub mod Sounds
 pub mod Completes
 pub mod Items
 pub mod Accepts
+pub mod Lawful

@@ -9,3 +9,4 @@ pub mod Reading
 pub mod Declarations
 pub mod Packages
 pub mod Law
+pub mod Accepted

@@ -8,6 +8,7 @@ use Rattle.std.specs.Results.{Cases}
 use Rattle.std.specs.declared.result.Result.{Result}
 use Rattle.layout.specs.Reading.{ok}
 use Rattle.layout.specs.Declarations.{Declaration, nothing}
+use Rattle.layout.specs.Accepted.{bodies, Lawful}
 use Rattle.layout.specs.Packages.{Keeps, encode, contents, readAll, readPackage, declarations}
 use Rattle.package.specs.declared.contents.Contents.{Contents}
 use Rattle.package.specs.declared.held.Package.{Package}
@@ -27,6 +28,10 @@ Loads bs r = Cases r (λ p. (vec-items (p .bytes) ≡ bs) × (readPackage bs ≡
 abbrev pub Exactly : List ℕ → Result Package Refusal → Type 0
 Exactly bs r =
     Cases r (λ p. Keeps (treeOf p) × (encode (treeOf p) ≡ bs)) (λ e. (number e ≡ 0 → ⊥) → (ds : List Declaration) → Keeps ds → encode ds ≡ bs → ⊥)
+
+-- what is accepted keeps the laws of accepted packages
+abbrev pub Keeping : Result Package Refusal → Type 0
+Keeping r = Cases r (λ p. Lawful (contents (treeOf p)) (bodies (treeOf p))) (λ e. Unit {0})
 
 -- what the bytes declare, whatever their length
 pub record ReadContents (bs : List ℕ) (c : Contents) : Type 0 where

@@ -3,7 +3,7 @@ ghost use mathlib.Core.Path.{_≡_};
 ghost use Prim.Native.Nat.{ℕ, _+_, _≤_};
 ghost use lib.ListN.{length};
 ghost use Rattle.std.specs.Of.Vec.{vec-items};
-ghost use Rattle.package.specs.Loads.{Loads, Exactly, ReadsContents};
+ghost use Rattle.package.specs.Loads.{Loads, Exactly, Keeping, ReadsContents};
 use contents::Contents;
 use declarations::Next;
 use declarations::lead_of;
@@ -45,6 +45,7 @@ fn read(heap: Global, bytes: &[u8]) -> Result<Contents, Refusal>
 pub fn load(heap: Global, bytes: &[u8]) -> Result<Package, Refusal>
     ensures reads { λ r. ⌜ Loads (now (bytes .entry)) r ⌝ }
     ensures exactly { λ r. ⌜ Exactly (now (bytes .entry)) r ⌝ }
+    ensures lawful { λ r. ⌜ Keeping r ⌝ }
 {
     if bytes.len() > 8192 {
         return Err(Refusal::TooLong(0));

@@ -6,6 +6,7 @@ use Rattle.std.proofs.shelf.Results.{err-from-errBy}
 use Rattle.std.specs.Of.Vec.{vec-items}
 use Rattle.layout.specs.Reading.{ok}
 use Rattle.layout.specs.Packages.{Keeps, encode, readPackage, accepts, declarations, held}
+use Rattle.layout.proofs.Lawful.{accepted-lawful}
 use Rattle.package.specs.Declares.{contentsOf}
 use Rattle.package.proofs.Ends.{refused-exactly, refused-read, accepted, read-as, keeps, held-all}
 use Rattle.package.proofs.load.Needs as need
@@ -14,7 +15,7 @@ pub returns-in-Break-contents : need.returns-in-Break-contents
 returns-in-Break-contents c =
     let p = err-from-errBy (c .from-residual .result) (c .from-residual .ensures .1) in
     let r = refused-read (c .args .bytes .now) (c .typed .bytes) (c .if-bytes-gt8192 .left) _ (c .in-Break-contents .ensures tt) in
-    rw (p .1, p .2) (record { reads = r; exactly = refused-exactly (c .args .bytes .now) (c .typed .bytes) _ r })
+    rw (p .1, p .2) (record { reads = r; exactly = refused-exactly (c .args .bytes .now) (c .typed .bytes) _ r; lawful = tt })
 
 pub ghost-result : need.ghost-result
 ghost-result c =
@@ -33,4 +34,5 @@ returns-in-Ok c =
     record {
       reads = (copy, r ∙ ap (λ (xs : List ℕ). ok (declarations xs)) (sym copy));
       exactly = subst (λ (xs : List ℕ). Keeps (declarations xs) × (encode (declarations xs) ≡ c .args .bytes .now)) (sym copy) k;
+      lawful = accepted-lawful (declarations (vec-items (c .in-Ok .copy))) (subst (λ (xs : List ℕ). Keeps (declarations xs)) (sym copy) (k .0));
     }
