@@ -5,8 +5,9 @@ use mathlib.Core.List.{List, [], _∷_, _++_, append-assoc, append-nil, map, map
 use Prim.Native.Nat.{ℕ, _+_, _<_, _≤_}
 use native.Mathlib.Omega.{arith}
 use lib.Dec.{leb, ltb, eqb}
-use lib.ListN.{length, getD, take, length-append, length-map}
-use lib.Seq.{take-append-seam, take-append-le}
+use lib.ListN.{length, getD, take, drop, length-append, length-map}
+use lib.Seq.{take-append-seam, take-append-le, drop-append-seam, drop-drop}
+
 use Rattle.std.specs.shelf.Lists.{All}
 use Rattle.std.proofs.shelf.Elements.{all-push, all-weaker}
 use Rattle.std.proofs.shelf.Tests.{ltb-true, leb-true, and-parts, eqb-false, not-true}
@@ -15,13 +16,14 @@ use Rattle.layout.specs.declared.Table.{Table}
 use Rattle.layout.specs.declared.Procedure.{Procedure}
 use Rattle.layout.specs.declared.Span.{Span}
 use Rattle.layout.specs.Tree.{Block}
+use Rattle.layout.specs.Bytes.{two}
 use Rattle.layout.specs.Layout.{encodeB}
 use Rattle.layout.specs.Folds.{sizeB, mostB, highestB, spansB}
 use Rattle.layout.specs.Scope.{Scope}
 use Rattle.layout.specs.Limits.{KeepsB, Sound}
-use Rattle.layout.specs.Declarations.{Simple, PARTY, INPUT, CELL, TABLE, DEVICE, ENTRY, Declaration, SIMPLE, PROC, itemBytes, item, lead, procHead, Contents, nothing, places, heightsOf, stepsOf, heights, bodySteps, scope, withEntry, procedure, declareSimple, declare}
-use Rattle.layout.specs.Packages.{Keep, KeepAll, Keeps, contentsFrom, contents}
-use Rattle.layout.specs.Accepted.{bodies, below, LawfulProcedure, LawfulProcedures, allSpans, cycleMost, Lawful, AcceptedLawful}
+use Rattle.layout.specs.Declarations.{Simple, PARTY, INPUT, CELL, TABLE, DEVICE, ENTRY, Declaration, SIMPLE, PROC, proc, itemBytes, item, lead, procHead, Contents, nothing, places, heightsOf, stepsOf, heights, bodySteps, scope, withEntry, procedure, declareSimple, declare}
+use Rattle.layout.specs.Packages.{Keep, KeepAll, encode, Keeps, contentsFrom, contents}
+use Rattle.layout.specs.Accepted.{bodies, below, LawfulProcedure, LawfulProcedures, Lie, allSpans, cycleMost, Lawful, AcceptedLawful}
 use Rattle.layout.proofs.Sizes.{spans-sizeB}
 use Rattle.layout.proofs.Heights.{low-block}
 
@@ -88,6 +90,12 @@ take-whole f xs ys = ap (take (length xs)) (map-append f xs ys) ∙ ap (λ (n : 
 scopes : (i p t d : ℕ) (hs ks ss us : List ℕ) → hs ≡ ks → ss ≡ us → _≡_ {A = Scope} (record { inputs = i; places = p; tables = t; devices = d; heights = hs; steps = ss }) (record { inputs = i; places = p; tables = t; devices = d; heights = ks; steps = us })
 scopes i p t d hs ks ss us e f = rw (e, f)
 
+push-lie : (bytes : List ℕ) (ps : List Procedure) (bs : List Block) (p : Procedure) (b : Block) → Lie bytes ps bs → take (p .length) (drop (p .start) bytes) ≡ encodeB b → Lie bytes (ps ++ (p ∷ [])) (bs ++ (b ∷ []))
+push-lie bytes [] [] p b h i = (i, tt)
+push-lie bytes [] (x ∷ bs) p b h i = absurd h
+push-lie bytes (q ∷ ps) [] p b h i = absurd h
+push-lie bytes (q ∷ ps) (x ∷ bs) p b h i = (h .0, push-lie bytes ps bs p b (h .1) i)
+
 -- the laws, one declaration after another
 
 no-procedures : (c c′ : Contents) (ps : List Procedure) (bs : List Block) → ps ≡ [] → bs ≡ [] → LawfulProcedures c′ 0 0 ps bs
@@ -96,8 +104,8 @@ no-procedures c c′ ps bs e f = rw (e, f) tt
 one-more : {X : Type 0} (xs : List X) (x : X) → length (xs ++ (x ∷ [])) ≡ length xs + 1
 one-more xs x = length-append xs (x ∷ [])
 
-lawful-simple : (x : Simple) (c : Contents) (bs : List Block) (at latest : ℕ) → Lawful c bs → Early latest c bs → Keep c at latest (SIMPLE x) → Lawful (declareSimple c x) bs × Early (lead (item (SIMPLE x))) (declareSimple c x) bs
-lawful-simple (PARTY g) c bs at latest h e k =
+lawful-simple : (bytes : List ℕ) (x : Simple) (c : Contents) (bs : List Block) (at latest : ℕ) → Lawful bytes c bs → Early latest c bs → Keep c at latest (SIMPLE x) → Lawful bytes (declareSimple c x) bs × Early (lead (item (SIMPLE x))) (declareSimple c x) bs
+lawful-simple bytes (PARTY g) c bs at latest h e k =
     let o = k .order in
     let l = one-more (c .parties) g in
     (
@@ -107,11 +115,11 @@ lawful-simple (PARTY g) c bs at latest h e k =
         owned = all-weaker (λ (i : Input). i .party < length (c .parties)) (λ (i : Input). i .party < length (c .parties ++ (g ∷ []))) (λ i q. omega arith) (c .inputs) (h .owned);
         cells = h .cells;
         procedures = no-procedures c _ _ _ (e .procedures (omega arith)) (e .bodies (omega arith));
-        spans = h .spans; entries = h .entries; steps = h .steps; brief = h .brief;
+        lie = h .lie; spans = h .spans; entries = h .entries; steps = h .steps; brief = h .brief;
       },
       record { tables = λ q. e .tables (omega arith); procedures = λ q. e .procedures (omega arith); bodies = λ q. e .bodies (omega arith); entries = λ q. e .entries (omega arith) },
     )
-lawful-simple (INPUT i) c bs at latest h e k =
+lawful-simple bytes (INPUT i) c bs at latest h e k =
     let o = k .order in
     let l = one-more (c .inputs) i in
     (
@@ -122,11 +130,11 @@ lawful-simple (INPUT i) c bs at latest h e k =
         owned = all-push (λ (i : Input). i .party < length (c .parties)) (c .inputs) i (h .owned) (ltb-true _ _ (k .names));
         cells = subst (λ (ts : List Table). All (λ (t : Table). (0 < t .length) × (length (c .inputs ++ (i ∷ [])) ≤ t .first) × (t .first + t .length ≤ length (c .inputs ++ (i ∷ [])) + length (c .cells))) ts) (sym (e .tables (omega arith))) tt;
         procedures = no-procedures c _ _ _ (e .procedures (omega arith)) (e .bodies (omega arith));
-        spans = h .spans; entries = h .entries; steps = h .steps; brief = h .brief;
+        lie = h .lie; spans = h .spans; entries = h .entries; steps = h .steps; brief = h .brief;
       },
       record { tables = λ q. e .tables (omega arith); procedures = λ q. e .procedures (omega arith); bodies = λ q. e .bodies (omega arith); entries = λ q. e .entries (omega arith) },
     )
-lawful-simple (CELL x) c bs at latest h e k =
+lawful-simple bytes (CELL x) c bs at latest h e k =
     let o = k .order in
     let l = one-more (c .cells) x in
     (
@@ -137,11 +145,11 @@ lawful-simple (CELL x) c bs at latest h e k =
         owned = h .owned;
         cells = subst (λ (ts : List Table). All (λ (t : Table). (0 < t .length) × (length (c .inputs) ≤ t .first) × (t .first + t .length ≤ length (c .inputs) + length (c .cells ++ (x ∷ [])))) ts) (sym (e .tables (omega arith))) tt;
         procedures = no-procedures c _ _ _ (e .procedures (omega arith)) (e .bodies (omega arith));
-        spans = h .spans; entries = h .entries; steps = h .steps; brief = h .brief;
+        lie = h .lie; spans = h .spans; entries = h .entries; steps = h .steps; brief = h .brief;
       },
       record { tables = λ q. e .tables (omega arith); procedures = λ q. e .procedures (omega arith); bodies = λ q. e .bodies (omega arith); entries = λ q. e .entries (omega arith) },
     )
-lawful-simple (TABLE x) c bs at latest h e k =
+lawful-simple bytes (TABLE x) c bs at latest h e k =
     let o = k .order in
     let l = one-more (c .tables) x in
     let n = and-parts _ _ (k .names) in
@@ -153,14 +161,14 @@ lawful-simple (TABLE x) c bs at latest h e k =
         owned = h .owned;
         cells = all-push (λ (t : Table). (0 < t .length) × (length (c .inputs) ≤ t .first) × (t .first + t .length ≤ places c)) (c .tables) x (h .cells) (some (x .length) (not-true _ (k .length)), leb-true _ _ (and-parts _ _ (n .0) .0), leb-true _ _ (n .1));
         procedures = no-procedures c _ _ _ (e .procedures (omega arith)) (e .bodies (omega arith));
-        spans = h .spans; entries = h .entries; steps = h .steps; brief = h .brief;
+        lie = h .lie; spans = h .spans; entries = h .entries; steps = h .steps; brief = h .brief;
       },
       record { tables = λ q. absurd (omega arith); procedures = λ q. e .procedures (omega arith); bodies = λ q. e .bodies (omega arith); entries = λ q. e .entries (omega arith) },
     )
   where
     some : (m : ℕ) → eqb m 0 ≡ false → 0 < m
     some m z = let f = eqb-false m 0 z in omega arith
-lawful-simple (DEVICE g) c bs at latest h e k =
+lawful-simple bytes (DEVICE g) c bs at latest h e k =
     let o = k .order in
     let l = one-more (c .needs) g in
     (
@@ -170,11 +178,11 @@ lawful-simple (DEVICE g) c bs at latest h e k =
         few-procedures = h .few-procedures; few-entries = h .few-entries; few-blocks = h .few-blocks;
         owned = h .owned; cells = h .cells;
         procedures = no-procedures c _ _ _ (e .procedures (omega arith)) (e .bodies (omega arith));
-        spans = h .spans; entries = h .entries; steps = h .steps; brief = h .brief;
+        lie = h .lie; spans = h .spans; entries = h .entries; steps = h .steps; brief = h .brief;
       },
       record { tables = λ q. absurd (omega arith); procedures = λ q. e .procedures (omega arith); bodies = λ q. e .bodies (omega arith); entries = λ q. e .entries (omega arith) },
     )
-lawful-simple (ENTRY p) c bs at latest h e k =
+lawful-simple bytes (ENTRY p) c bs at latest h e k =
     let o = k .order in
     let l = one-more (c .entries) p in
     let s = push-cycle (bodySteps c) (c .entries) p in
@@ -184,6 +192,7 @@ lawful-simple (ENTRY p) c bs at latest h e k =
         few-entries = omega (arith, ltb-true _ _ (k .limit));
         few-blocks = h .few-blocks; owned = h .owned; cells = h .cells;
         procedures = carry-procedures c (declareSimple c (ENTRY p)) (length (c .procedures)) (omega arith) (λ j q. refl) 0 0 (c .procedures) bs (omega arith) (h .procedures);
+        lie = h .lie;
         spans = h .spans;
         entries = all-push (λ (x : ℕ). x < length (c .procedures)) (c .entries) p (h .entries) (ltb-true _ _ (k .names));
         steps = omega (arith, h .steps);
@@ -192,8 +201,8 @@ lawful-simple (ENTRY p) c bs at latest h e k =
       record { tables = λ q. absurd (omega arith); procedures = λ q. absurd (omega arith); bodies = λ q. absurd (omega arith); entries = λ q. absurd (omega arith) },
     )
 
-lawful-procedure : (p : ℕ) (b : Block) (c : Contents) (bs : List Block) (at latest : ℕ) → Lawful c bs → Early latest c bs → Keep c at latest (PROC p b) → Lawful (declare c at (PROC p b)) (bs ++ (b ∷ [])) × Early 0x86 (declare c at (PROC p b)) (bs ++ (b ∷ []))
-lawful-procedure p b c bs at latest h e k =
+lawful-procedure : (bytes : List ℕ) (p : ℕ) (b : Block) (c : Contents) (bs : List Block) (at latest : ℕ) → take (length (encodeB b)) (drop (at + procHead) bytes) ≡ encodeB b → Lawful bytes c bs → Early latest c bs → Keep c at latest (PROC p b) → Lawful bytes (declare c at (PROC p b)) (bs ++ (b ∷ [])) × Early 0x86 (declare c at (PROC p b)) (bs ++ (b ∷ []))
+lawful-procedure bytes p b c bs at latest there h e k =
     let o = k .order in
     let r = and-parts (ltb (length (c .procedures)) 32) (ltb (length (c .spans)) 256) (k .limit) in
     let x : Procedure = procedure c at p b in
@@ -229,6 +238,7 @@ lawful-procedure p b c bs at latest h e k =
         few-blocks = omega (arith, k .body .few);
         owned = h .owned; cells = h .cells;
         procedures = push-procedure d 0 0 (c .procedures) bs x b (carry-procedures c d (length (c .procedures)) (omega arith) earlier 0 0 (c .procedures) bs (omega arith) (h .procedures)) new;
+        lie = push-lie bytes (c .procedures) bs x b (h .lie) there;
         spans = ap (λ (t : List Span). t ++ spansB (at + procHead) b) (h .spans) ∙ sym (push-spans c 0 0 (c .procedures) bs x b (h .procedures));
         entries = subst (λ (es : List ℕ). All (λ (n : ℕ). n < length (c .procedures ++ (x ∷ []))) es) (sym none) tt;
         steps = h .steps ∙ ap (cycleMost (bodySteps c)) none ∙ sym (ap (cycleMost (bodySteps d)) none);
@@ -237,22 +247,30 @@ lawful-procedure p b c bs at latest h e k =
       record { tables = λ q. absurd (omega arith); procedures = λ q. absurd (omega arith); bodies = λ q. absurd (omega arith); entries = λ q. none },
     )
 
-all-lawful : (ds : List Declaration) (c : Contents) (bs : List Block) (at latest : ℕ) → Lawful c bs → Early latest c bs → KeepAll c at latest ds → Lawful (contentsFrom c at ds) (bs ++ bodies ds)
-all-lawful [] c bs at latest h e k = subst (Lawful c) (sym (append-nil bs)) h
-all-lawful (SIMPLE x ∷ ds) c bs at latest h e k =
-    let n = lawful-simple x c bs at latest h e (k .0) in
-    all-lawful ds (declareSimple c x) bs _ _ (n .0) (n .1) (k .1)
-all-lawful (PROC p b ∷ ds) c bs at latest h e k =
-    let n = lawful-procedure p b c bs at latest h e (k .0) in
-    subst (Lawful (contentsFrom c at (PROC p b ∷ ds))) (append-assoc bs (b ∷ []) (bodies ds)) (all-lawful ds (declare c at (PROC p b)) (bs ++ (b ∷ [])) _ _ (n .0) (n .1) (k .1))
+-- what is left of the bytes behind one declaration
+behind : (bytes xs ys : List ℕ) (at : ℕ) → drop at bytes ≡ xs ++ ys → drop (at + length xs) bytes ≡ ys
+behind bytes xs ys at e = sym (drop-drop (length xs) at bytes) ∙ ap (drop (length xs)) e ∙ drop-append-seam xs ys
+
+body-there : (bytes : List ℕ) (p at : ℕ) (y more : List ℕ) → drop at bytes ≡ itemBytes (proc p y) ++ more → take (length y) (drop (at + procHead) bytes) ≡ y
+body-there bytes p at y more e = ap (take (length y)) (behind bytes (0x86 ∷ p ∷ two (length y) []) (y ++ more) at e) ∙ take-append-seam y more
+
+all-lawful : (bytes : List ℕ) (ds : List Declaration) (c : Contents) (bs : List Block) (at latest : ℕ) → drop at bytes ≡ encode ds → Lawful bytes c bs → Early latest c bs → KeepAll c at latest ds → Lawful bytes (contentsFrom c at ds) (bs ++ bodies ds)
+all-lawful bytes [] c bs at latest t h e k = subst (Lawful bytes c) (sym (append-nil bs)) h
+all-lawful bytes (SIMPLE x ∷ ds) c bs at latest t h e k =
+    let n = lawful-simple bytes x c bs at latest h e (k .0) in
+    all-lawful bytes ds (declareSimple c x) bs _ _ (behind bytes (itemBytes (item (SIMPLE x))) (encode ds) at t) (n .0) (n .1) (k .1)
+all-lawful bytes (PROC p b ∷ ds) c bs at latest t h e k =
+    let n = lawful-procedure bytes p b c bs at latest (body-there bytes p at (encodeB b) (encode ds) t) h e (k .0) in
+    subst (Lawful bytes (contentsFrom c at (PROC p b ∷ ds))) (append-assoc bs (b ∷ []) (bodies ds))
+    (all-lawful bytes ds (declare c at (PROC p b)) (bs ++ (b ∷ [])) _ _ (behind bytes (itemBytes (item (PROC p b))) (encode ds) at t) (n .0) (n .1) (k .1))
 
 pub accepted-lawful : AcceptedLawful
-accepted-lawful ds k = all-lawful ds nothing [] 0 0 start early (k .each)
+accepted-lawful ds k = all-lawful (encode ds) ds nothing [] 0 0 refl start early (k .each)
   where
-    start : Lawful nothing []
+    start : Lawful (encode ds) nothing []
     start = record {
       few-parties = omega arith; few-places = omega arith; few-tables = omega arith; few-devices = omega arith; few-procedures = omega arith; few-entries = omega arith; few-blocks = omega arith;
-      owned = tt; cells = tt; procedures = tt; spans = refl; entries = tt; steps = refl; brief = omega arith;
+      owned = tt; cells = tt; procedures = tt; lie = tt; spans = refl; entries = tt; steps = refl; brief = omega arith;
     }
     early : Early 0 nothing []
     early = record { tables = λ q. refl; procedures = λ q. refl; bodies = λ q. refl; entries = λ q. refl }

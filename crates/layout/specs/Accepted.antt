@@ -2,7 +2,7 @@
 use mathlib.Core.Path.{_≡_}
 use mathlib.Core.List.{List, [], _∷_, _++_}
 use Prim.Native.Nat.{ℕ, _+_, _<_, _≤_}
-use lib.ListN.{length, getD, take}
+use lib.ListN.{length, getD, take, drop}
 use Rattle.std.specs.shelf.Lists.{All}
 use Rattle.layout.specs.declared.Input.{Input}
 use Rattle.layout.specs.declared.Table.{Table}
@@ -14,7 +14,7 @@ use Rattle.layout.specs.Folds.{sizeB, mostB, highestB, spansB}
 use Rattle.layout.specs.Scope.{Scope}
 use Rattle.layout.specs.Limits.{KeepsB}
 use Rattle.layout.specs.Declarations.{Declaration, SIMPLE, PROC, Contents, places, heights, bodySteps}
-use Rattle.layout.specs.Packages.{Keeps, contents}
+use Rattle.layout.specs.Packages.{Keeps, encode, contents}
 
 -- the bodies of the procedures, in their order
 abbrev pub bodies : List Declaration → List Block
@@ -45,6 +45,13 @@ LawfulProcedures c k n [] (b ∷ bs) = ⊥
 LawfulProcedures c k n (p ∷ ps) [] = ⊥
 LawfulProcedures c k n (p ∷ ps) (b ∷ bs) = LawfulProcedure c k n p b × LawfulProcedures c (k + 1) (n + sizeB b) ps bs
 
+-- each body lies in the bytes where its procedure says
+abbrev pub Lie : List ℕ → List Procedure → List Block → Type 0
+Lie bytes [] [] = Unit {0}
+Lie bytes [] (b ∷ bs) = ⊥
+Lie bytes (p ∷ ps) [] = ⊥
+Lie bytes (p ∷ ps) (b ∷ bs) = (take (p .length) (drop (p .start) bytes) ≡ encodeB b) × Lie bytes ps bs
+
 -- where every block lies
 abbrev pub allSpans : List Procedure → List Block → List Span
 allSpans [] bs = []
@@ -56,7 +63,7 @@ abbrev pub cycleMost : List ℕ → List ℕ → ℕ
 cycleMost below [] = 0
 cycleMost below (e ∷ es) = 1 + getD below e 0 + cycleMost below es
 
-pub record Lawful (c : Contents) (bs : List Block) : Type 0 where
+pub record Lawful (bytes : List ℕ) (c : Contents) (bs : List Block) : Type 0 where
   pub few-parties : length (c .parties) ≤ 16
   pub few-places : places c ≤ 128
   pub few-tables : length (c .tables) ≤ 16
@@ -67,10 +74,11 @@ pub record Lawful (c : Contents) (bs : List Block) : Type 0 where
   pub owned : All (λ (i : Input). i .party < length (c .parties)) (c .inputs)
   pub cells : All (λ (t : Table). (0 < t .length) × (length (c .inputs) ≤ t .first) × (t .first + t .length ≤ places c)) (c .tables)
   pub procedures : LawfulProcedures c 0 0 (c .procedures) bs
+  pub lie : Lie bytes (c .procedures) bs
   pub spans : c .spans ≡ allSpans (c .procedures) bs
   pub entries : All (λ (e : ℕ). e < length (c .procedures)) (c .entries)
   pub steps : c .steps ≡ cycleMost (bodySteps c) (c .entries)
   pub brief : c .steps ≤ 1000000
 
 abbrev pub AcceptedLawful : Type 0
-AcceptedLawful = (ds : List Declaration) → Keeps ds → Lawful (contents ds) (bodies ds)
+AcceptedLawful = (ds : List Declaration) → Keeps ds → Lawful (encode ds) (contents ds) (bodies ds)

@@ -31,7 +31,7 @@ Exactly bs r =
 
 -- what is accepted keeps the laws of accepted packages
 abbrev pub Keeping : Result Package Refusal → Type 0
-Keeping r = Cases r (λ p. Lawful (contents (treeOf p)) (bodies (treeOf p))) (λ e. Unit {0})
+Keeping r = Cases r (λ p. Lawful (vec-items (p .bytes)) (contents (treeOf p)) (bodies (treeOf p))) (λ e. Unit {0})
 
 -- what the bytes declare, whatever their length
 pub record ReadContents (bs : List ℕ) (c : Contents) : Type 0 where

@@ -6,9 +6,8 @@ use Rattle.std.proofs.shelf.Results.{err-from-errBy}
 use Rattle.std.specs.Of.Vec.{vec-items}
 use Rattle.layout.specs.Reading.{ok}
 use Rattle.layout.specs.Packages.{Keeps, encode, readPackage, accepts, declarations, held}
-use Rattle.layout.proofs.Lawful.{accepted-lawful}
 use Rattle.package.specs.Declares.{contentsOf}
-use Rattle.package.proofs.Ends.{refused-exactly, refused-read, accepted, read-as, keeps, held-all}
+use Rattle.package.proofs.Ends.{refused-exactly, refused-read, accepted, read-as, keeps, held-all, lawful-bytes}
 use Rattle.package.proofs.load.Needs as need
 
 pub returns-in-Break-contents : need.returns-in-Break-contents
@@ -34,5 +33,5 @@ returns-in-Ok c =
     record {
       reads = (copy, r ∙ ap (λ (xs : List ℕ). ok (declarations xs)) (sym copy));
       exactly = subst (λ (xs : List ℕ). Keeps (declarations xs) × (encode (declarations xs) ≡ c .args .bytes .now)) (sym copy) k;
-      lawful = accepted-lawful (declarations (vec-items (c .in-Ok .copy))) (subst (λ (xs : List ℕ). Keeps (declarations xs)) (sym copy) (k .0));
+      lawful = lawful-bytes (vec-items (c .in-Ok .copy)) (subst (λ (xs : List ℕ). Keeps (declarations xs) × (encode (declarations xs) ≡ xs)) (sym copy) k);
     }
