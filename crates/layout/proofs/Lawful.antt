@@ -5,7 +5,7 @@ use mathlib.Core.List.{List, [], _∷_, _++_, append-assoc, append-nil, map, map
 use Prim.Native.Nat.{ℕ, _+_, _<_, _≤_}
 use native.Mathlib.Omega.{arith}
 use lib.Dec.{leb, ltb, eqb}
-use lib.ListN.{length, getD, take, drop, length-append, length-map}
+use lib.ListN.{length, getD, take, drop, length-append, length-drop, length-map}
 use lib.Seq.{take-append-seam, take-append-le, drop-append-seam, drop-drop}
 
 use Rattle.std.specs.shelf.Lists.{All}
@@ -90,7 +90,7 @@ take-whole f xs ys = ap (take (length xs)) (map-append f xs ys) ∙ ap (λ (n : 
 scopes : (i p t d : ℕ) (hs ks ss us : List ℕ) → hs ≡ ks → ss ≡ us → _≡_ {A = Scope} (record { inputs = i; places = p; tables = t; devices = d; heights = hs; steps = ss }) (record { inputs = i; places = p; tables = t; devices = d; heights = ks; steps = us })
 scopes i p t d hs ks ss us e f = rw (e, f)
 
-push-lie : (bytes : List ℕ) (ps : List Procedure) (bs : List Block) (p : Procedure) (b : Block) → Lie bytes ps bs → take (p .length) (drop (p .start) bytes) ≡ encodeB b → Lie bytes (ps ++ (p ∷ [])) (bs ++ (b ∷ []))
+push-lie : (bytes : List ℕ) (ps : List Procedure) (bs : List Block) (p : Procedure) (b : Block) → Lie bytes ps bs → (p .start + p .length ≤ length bytes) × (take (p .length) (drop (p .start) bytes) ≡ encodeB b) → Lie bytes (ps ++ (p ∷ [])) (bs ++ (b ∷ []))
 push-lie bytes [] [] p b h i = (i, tt)
 push-lie bytes [] (x ∷ bs) p b h i = absurd h
 push-lie bytes (q ∷ ps) [] p b h i = absurd h
@@ -201,7 +201,7 @@ lawful-simple bytes (ENTRY p) c bs at latest h e k =
       record { tables = λ q. absurd (omega arith); procedures = λ q. absurd (omega arith); bodies = λ q. absurd (omega arith); entries = λ q. absurd (omega arith) },
     )
 
-lawful-procedure : (bytes : List ℕ) (p : ℕ) (b : Block) (c : Contents) (bs : List Block) (at latest : ℕ) → take (length (encodeB b)) (drop (at + procHead) bytes) ≡ encodeB b → Lawful bytes c bs → Early latest c bs → Keep c at latest (PROC p b) → Lawful bytes (declare c at (PROC p b)) (bs ++ (b ∷ [])) × Early 0x86 (declare c at (PROC p b)) (bs ++ (b ∷ []))
+lawful-procedure : (bytes : List ℕ) (p : ℕ) (b : Block) (c : Contents) (bs : List Block) (at latest : ℕ) → (at + procHead + length (encodeB b) ≤ length bytes) × (take (length (encodeB b)) (drop (at + procHead) bytes) ≡ encodeB b) → Lawful bytes c bs → Early latest c bs → Keep c at latest (PROC p b) → Lawful bytes (declare c at (PROC p b)) (bs ++ (b ∷ [])) × Early 0x86 (declare c at (PROC p b)) (bs ++ (b ∷ []))
 lawful-procedure bytes p b c bs at latest there h e k =
     let o = k .order in
     let r = and-parts (ltb (length (c .procedures)) 32) (ltb (length (c .spans)) 256) (k .limit) in
@@ -251,8 +251,12 @@ lawful-procedure bytes p b c bs at latest there h e k =
 behind : (bytes xs ys : List ℕ) (at : ℕ) → drop at bytes ≡ xs ++ ys → drop (at + length xs) bytes ≡ ys
 behind bytes xs ys at e = sym (drop-drop (length xs) at bytes) ∙ ap (drop (length xs)) e ∙ drop-append-seam xs ys
 
-body-there : (bytes : List ℕ) (p at : ℕ) (y more : List ℕ) → drop at bytes ≡ itemBytes (proc p y) ++ more → take (length y) (drop (at + procHead) bytes) ≡ y
-body-there bytes p at y more e = ap (take (length y)) (behind bytes (0x86 ∷ p ∷ two (length y) []) (y ++ more) at e) ∙ take-append-seam y more
+body-there : (bytes : List ℕ) (p at : ℕ) (y more : List ℕ) → drop at bytes ≡ itemBytes (proc p y) ++ more → (at + procHead + length y ≤ length bytes) × (take (length y) (drop (at + procHead) bytes) ≡ y)
+body-there bytes p at y more e =
+    let l : length (drop at bytes) ≡ length (itemBytes (proc p y) ++ more) = ap length e in
+    let m = length-drop at bytes in
+    let n = length-append (itemBytes (proc p y)) more in
+    (omega arith, ap (take (length y)) (behind bytes (0x86 ∷ p ∷ two (length y) []) (y ++ more) at e) ∙ take-append-seam y more)
 
 all-lawful : (bytes : List ℕ) (ds : List Declaration) (c : Contents) (bs : List Block) (at latest : ℕ) → drop at bytes ≡ encode ds → Lawful bytes c bs → Early latest c bs → KeepAll c at latest ds → Lawful bytes (contentsFrom c at ds) (bs ++ bodies ds)
 all-lawful bytes [] c bs at latest t h e k = subst (Lawful bytes c) (sym (append-nil bs)) h

@@ -5,12 +5,23 @@ use Prim.Native.Nat.{ℕ, zero, suc, _+_, _*_, _/_, _%_, _≤_, _<_}
 use native.Mathlib.Omega.{arith}
 use lib.ListN.{length, getD, drop}
 use lib.Seq.{drop-cons}
-use Rattle.layout.specs.Bytes.{Bytes, be16, be32, be64, two, four, eight}
+use mathlib.Core.Bool.{true}
+use lib.Dec.{ltb}
+use Rattle.std.proofs.shelf.Tests.{and-parts, and-from, ltb-true, lt-ltb}
+use Rattle.layout.specs.Bytes.{Bytes, areBytes, be16, be32, be64, two, four, eight}
 
 pub bytes-at : (bs : List ℕ) → Bytes bs → (i : ℕ) → getD bs i 0 < 256
 bytes-at [] h i = omega arith
 bytes-at (x ∷ bs) h zero = h .0
 bytes-at (x ∷ bs) h (suc i) = bytes-at bs (h .1) i
+
+pub bytes-tested : (bs : List ℕ) → areBytes bs ≡ true → Bytes bs
+bytes-tested [] h = tt
+bytes-tested (x ∷ bs) h = let p = and-parts (ltb x 256) (areBytes bs) h in (ltb-true x 256 (p .0), bytes-tested bs (p .1))
+
+pub bytes-test : (bs : List ℕ) → Bytes bs → areBytes bs ≡ true
+bytes-test [] h = refl
+bytes-test (x ∷ bs) h = and-from (ltb x 256) (areBytes bs) (lt-ltb x 256 (h .0)) (bytes-test bs (h .1))
 
 pub bytes-left : (xs ys : List ℕ) → Bytes (xs ++ ys) → Bytes xs
 bytes-left [] ys h = tt

@@ -50,7 +50,7 @@ abbrev pub Lie : List ℕ → List Procedure → List Block → Type 0
 Lie bytes [] [] = Unit {0}
 Lie bytes [] (b ∷ bs) = ⊥
 Lie bytes (p ∷ ps) [] = ⊥
-Lie bytes (p ∷ ps) (b ∷ bs) = (take (p .length) (drop (p .start) bytes) ≡ encodeB b) × Lie bytes ps bs
+Lie bytes (p ∷ ps) (b ∷ bs) = ((p .start + p .length ≤ length bytes) × (take (p .length) (drop (p .start) bytes) ≡ encodeB b)) × Lie bytes ps bs
 
 -- where every block lies
 abbrev pub allSpans : List Procedure → List Block → List Span

@@ -1,12 +1,19 @@
 -- Numbers in bytes, the highest byte first.
+use mathlib.Core.Bool.{Bool, true, _&&_}
 use mathlib.Core.List.{List, [], _∷_}
 use Prim.Native.Nat.{ℕ, _+_, _*_, _/_, _%_, _<_}
+use lib.Dec.{ltb}
 use lib.ListN.{getD}
 
 -- each element is a byte
 abbrev pub Bytes : List ℕ → Type 0
 Bytes [] = Unit {0}
 Bytes (x ∷ xs) = (x < 256) × Bytes xs
+
+-- the same, as a test
+abbrev pub areBytes : List ℕ → Bool
+areBytes [] = true
+areBytes (x ∷ xs) = ltb x 256 && areBytes xs
 
 -- the number in the two, four or eight bytes from i on
 abbrev pub be16 : List ℕ → ℕ → ℕ

@@ -14,8 +14,7 @@ use Rattle.layout.specs.Declarations.{Declaration, Contents, nothing}
 use Rattle.layout.specs.Packages.{Keeps, encode, contents, readAll, readPackage, accepts, declarations, held}
 use Rattle.layout.proofs.Completes.{passes}
 use Rattle.layout.specs.Accepted.{bodies, Lawful}
-use Rattle.layout.specs.Bytes.{Bytes}
-use Rattle.layout.proofs.Accepts.{accepted-exactly, accepts-read, read-accepted}
+use Rattle.layout.proofs.Accepts.{accepted-exactly, accepts-read}
 use Rattle.layout.proofs.Lawful.{accepted-lawful}
 use Rattle.package.specs.declared.refusal.Refusal.{Refusal}
 use Rattle.package.specs.Holds.{number, offset, Refused}
@@ -60,6 +59,3 @@ too-long bs h = cond-false (leb (length bs) 8192) _ _ (lt-leb (length bs) 8192 h
 -- the laws of accepted packages, of the bytes themselves
 pub lawful-bytes : (bs : List ℕ) → Keeps (declarations bs) × (encode (declarations bs) ≡ bs) → Lawful bs (contents (declarations bs)) (bodies (declarations bs))
 lawful-bytes bs k = subst (λ (xs : List ℕ). Lawful xs (contents (declarations bs)) (bodies (declarations bs))) (k .1) (accepted-lawful (declarations bs) (k .0))
-
-pub lawful-accepted : (bs : List ℕ) → Bytes bs → accepts bs ≡ true → Lawful bs (contents (declarations bs)) (bodies (declarations bs))
-lawful-accepted bs small h = lawful-bytes bs (accepted-exactly bs (declarations bs) small .0 (read-accepted bs h))

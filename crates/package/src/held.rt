@@ -2,6 +2,7 @@
 ghost use mathlib.Core.Path.{_≡_};
 ghost use mathlib.Core.Bool.{true};
 ghost use Rattle.std.specs.Of.Vec.{vec-items};
+ghost use Rattle.layout.specs.Bytes.{areBytes};
 ghost use Rattle.layout.specs.Packages.{accepts, held};
 ghost use Rattle.package.specs.Declares.{contentsOf};
 use super::contents::Contents;
@@ -11,6 +12,7 @@ use super::contents::Contents;
 pub struct Package {
     pub(crate) bytes: Vec<u8>,
     pub(crate) contents: Contents,
+    ghost octets: { areBytes (vec-items bytes) ≡ true },
     ghost accepted: { accepts (vec-items bytes) ≡ true },
     ghost declares: { ∥ contentsOf contents ≡ held (vec-items bytes) ∥₁ },
 }

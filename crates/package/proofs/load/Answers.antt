@@ -4,9 +4,12 @@ use mathlib.Core.Bool.{true}
 use Prim.Native.Nat.{ℕ}
 use Rattle.std.proofs.shelf.Results.{err-from-errBy}
 use Rattle.std.specs.Of.Vec.{vec-items}
+use Rattle.layout.specs.Bytes.{areBytes}
 use Rattle.layout.specs.Reading.{ok}
 use Rattle.layout.specs.Packages.{Keeps, encode, readPackage, accepts, declarations, held}
+use Rattle.layout.proofs.Numbers.{bytes-test}
 use Rattle.package.specs.Declares.{contentsOf}
+use Rattle.package.proofs.Turns.{bytes-all}
 use Rattle.package.proofs.Ends.{refused-exactly, refused-read, accepted, read-as, keeps, held-all, lawful-bytes}
 use Rattle.package.proofs.load.Needs as need
 
@@ -22,7 +25,7 @@ ghost-result c =
     let h = c .in-Continue-contents .ensures tt in
     let a = accepted (c .args .bytes .now) (c .typed .bytes) (c .if-bytes-gt8192 .left) (h .all) (h .reads) in
     let d = held-all (c .args .bytes .now) (c .typed .bytes) (c .if-bytes-gt8192 .left) (h .all) (h .reads) _ (h .holds) in
-    (ap accepts copy ∙ a, (∣ d ∙ ap held (sym copy) ∣₁, tt))
+    (ap areBytes copy ∙ bytes-test (c .args .bytes .now) (bytes-all (c .args .bytes .now) (c .typed .bytes)), (ap accepts copy ∙ a, (∣ d ∙ ap held (sym copy) ∣₁, tt)))
 
 pub returns-in-Ok : need.returns-in-Ok
 returns-in-Ok c =

@@ -1,0 +1,4 @@
+pub mod Numbering
+pub mod Tells
+pub mod Procedures
+pub mod Joins
