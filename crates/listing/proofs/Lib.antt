@@ -2,3 +2,4 @@ pub mod Numbering
 pub mod Tells
 pub mod Procedures
 pub mod Joins
+pub mod Told

@@ -12,12 +12,8 @@ use Rattle.listing.specs.declared.lines.Line.the-variants as line
 use Rattle.listing.specs.declared.lines.Sort.{Sort}
 use Rattle.listing.specs.declared.lines.Sort.the-variants.{Parties, Places, Tables, Devices, Procedures, Entries}
 use Rattle.listing.specs.declared.lines.Role.the-variants.{Body}
+use Rattle.listing.specs.Numbered.{numbered}
 use Rattle.listing.specs.Bodies.{blockLines}
-
--- one line for each, numbered from n on
-abbrev pub numbered : {X : Type 0} → (ℕ → X → Line) → ℕ → List X → List Line
-numbered row n [] = []
-numbered row n (x ∷ xs) = row n x ∷ numbered row (n + 1) xs
 
 -- the procedures from number k on, each with its body, where i places are inputs
 abbrev pub procedureLines : ℕ → ℕ → List Procedure → List Block → List Line

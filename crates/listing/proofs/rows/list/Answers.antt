@@ -5,7 +5,7 @@ use lib.ListN.{take}
 use lib.Seq.{take-all}
 use Rattle.std.specs.Of.Vec.{vec-items}
 use Rattle.listing.specs.declared.lines.Line.{Line}
-use Rattle.listing.specs.Lines.{numbered}
+use Rattle.listing.specs.Numbered.{numbered}
 use Rattle.listing.proofs.Numbering.{numbered-more}
 use Rattle.listing.proofs.rows.list.Needs as need
 

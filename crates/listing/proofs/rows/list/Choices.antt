@@ -3,7 +3,7 @@ use mathlib.Core.List.{_++_}
 use Prim.Native.Nat.{_+_, _<_, _^_}
 use lib.ListN.{length, take}
 use Rattle.std.specs.Of.Vec.{vec-items}
-use Rattle.listing.specs.Lines.{numbered}
+use Rattle.listing.specs.Numbered.{numbered}
 use Rattle.listing.proofs.rows.list.Given as given
 
 abbrev pub Inv-loop-item : given.InvT-loop-item
