@@ -1,6 +1,4 @@
 // Reads a rule package from standard input and tells what it holds, or where and why it is refused.
-use std::error::AnyError;
-use std::io::Read;
 use listing::listing;
 use listing::refusals::Excerpt;
 use listing::refusals::ExcerptDisplay;
@@ -12,6 +10,8 @@ use listing::text::LineDisplay;
 use package::held::Package;
 use package::load;
 use package::refusal::Refusal;
+use std::error::AnyError;
+use std::io::Read;
 
 // One byte more than any package has: what is longer is refused as such, and not cut.
 const MOST: u64 = 8193;
@@ -28,9 +28,15 @@ fn tell_accepted(rt: &LibcRuntime, held: &Package) -> Result<(), AnyError> {
 }
 
 fn tell_refused(rt: &LibcRuntime, bytes: &[u8], refusal: Refusal) -> Result<(), AnyError> {
-    let step = Step::Refused { number: refusal.number(), offset: refusal.offset() };
+    let step = Step::Refused {
+        number: refusal.number(),
+        offset: refusal.offset(),
+    };
     let why = cause(refusal);
-    let around = Excerpt { bytes, offset: refusal.offset() };
+    let around = Excerpt {
+        bytes,
+        offset: refusal.offset(),
+    };
     println!(rt, "{step}")?;
     println!(rt, "  {why}")?;
     println!(rt, "  {around}")?;

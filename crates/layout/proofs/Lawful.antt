@@ -7,7 +7,6 @@ use native.Mathlib.Omega.{arith}
 use lib.Dec.{leb, ltb, eqb}
 use lib.ListN.{length, getD, take, drop, length-append, length-drop, length-map}
 use lib.Seq.{take-append-seam, take-append-le, drop-append-seam, drop-drop}
-
 use Rattle.std.specs.shelf.Lists.{All}
 use Rattle.std.proofs.shelf.Elements.{all-push, all-weaker}
 use Rattle.std.proofs.shelf.Tests.{ltb-true, leb-true, and-parts, eqb-false, not-true}
@@ -107,61 +106,90 @@ one-more xs x = length-append xs (x ∷ [])
 lawful-simple : (bytes : List ℕ) (x : Simple) (c : Contents) (bs : List Block) (at latest : ℕ) → Lawful bytes c bs → Early latest c bs → Keep c at latest (SIMPLE x) → Lawful bytes (declareSimple c x) bs × Early (lead (item (SIMPLE x))) (declareSimple c x) bs
 lawful-simple bytes (PARTY g) c bs at latest h e k =
     let o = k .order in
-    let l = one-more (c .parties) g in
-    (
+    let l = one-more (c .parties) g in (
       record {
         few-parties = omega (arith, ltb-true _ _ (k .limit));
-        few-places = h .few-places; few-tables = h .few-tables; few-devices = h .few-devices; few-procedures = h .few-procedures; few-entries = h .few-entries; few-blocks = h .few-blocks;
+        few-places = h .few-places;
+        few-tables = h .few-tables;
+        few-devices = h .few-devices;
+        few-procedures = h .few-procedures;
+        few-entries = h .few-entries;
+        few-blocks = h .few-blocks;
         owned = all-weaker (λ (i : Input). i .party < length (c .parties)) (λ (i : Input). i .party < length (c .parties ++ (g ∷ []))) (λ i q. omega arith) (c .inputs) (h .owned);
         cells = h .cells;
         procedures = no-procedures c _ _ _ (e .procedures (omega arith)) (e .bodies (omega arith));
-        lie = h .lie; spans = h .spans; entries = h .entries; steps = h .steps; brief = h .brief;
+        lie = h .lie;
+        spans = h .spans;
+        entries = h .entries;
+        steps = h .steps;
+        brief = h .brief;
       },
       record { tables = λ q. e .tables (omega arith); procedures = λ q. e .procedures (omega arith); bodies = λ q. e .bodies (omega arith); entries = λ q. e .entries (omega arith) },
     )
 lawful-simple bytes (INPUT i) c bs at latest h e k =
     let o = k .order in
-    let l = one-more (c .inputs) i in
-    (
+    let l = one-more (c .inputs) i in (
       record {
         few-parties = h .few-parties;
         few-places = omega (arith, ltb-true _ _ (k .limit));
-        few-tables = h .few-tables; few-devices = h .few-devices; few-procedures = h .few-procedures; few-entries = h .few-entries; few-blocks = h .few-blocks;
+        few-tables = h .few-tables;
+        few-devices = h .few-devices;
+        few-procedures = h .few-procedures;
+        few-entries = h .few-entries;
+        few-blocks = h .few-blocks;
         owned = all-push (λ (i : Input). i .party < length (c .parties)) (c .inputs) i (h .owned) (ltb-true _ _ (k .names));
         cells = subst (λ (ts : List Table). All (λ (t : Table). (0 < t .length) × (length (c .inputs ++ (i ∷ [])) ≤ t .first) × (t .first + t .length ≤ length (c .inputs ++ (i ∷ [])) + length (c .cells))) ts) (sym (e .tables (omega arith))) tt;
         procedures = no-procedures c _ _ _ (e .procedures (omega arith)) (e .bodies (omega arith));
-        lie = h .lie; spans = h .spans; entries = h .entries; steps = h .steps; brief = h .brief;
+        lie = h .lie;
+        spans = h .spans;
+        entries = h .entries;
+        steps = h .steps;
+        brief = h .brief;
       },
       record { tables = λ q. e .tables (omega arith); procedures = λ q. e .procedures (omega arith); bodies = λ q. e .bodies (omega arith); entries = λ q. e .entries (omega arith) },
     )
 lawful-simple bytes (CELL x) c bs at latest h e k =
     let o = k .order in
-    let l = one-more (c .cells) x in
-    (
+    let l = one-more (c .cells) x in (
       record {
         few-parties = h .few-parties;
         few-places = omega (arith, ltb-true _ _ (k .limit));
-        few-tables = h .few-tables; few-devices = h .few-devices; few-procedures = h .few-procedures; few-entries = h .few-entries; few-blocks = h .few-blocks;
+        few-tables = h .few-tables;
+        few-devices = h .few-devices;
+        few-procedures = h .few-procedures;
+        few-entries = h .few-entries;
+        few-blocks = h .few-blocks;
         owned = h .owned;
         cells = subst (λ (ts : List Table). All (λ (t : Table). (0 < t .length) × (length (c .inputs) ≤ t .first) × (t .first + t .length ≤ length (c .inputs) + length (c .cells ++ (x ∷ [])))) ts) (sym (e .tables (omega arith))) tt;
         procedures = no-procedures c _ _ _ (e .procedures (omega arith)) (e .bodies (omega arith));
-        lie = h .lie; spans = h .spans; entries = h .entries; steps = h .steps; brief = h .brief;
+        lie = h .lie;
+        spans = h .spans;
+        entries = h .entries;
+        steps = h .steps;
+        brief = h .brief;
       },
       record { tables = λ q. e .tables (omega arith); procedures = λ q. e .procedures (omega arith); bodies = λ q. e .bodies (omega arith); entries = λ q. e .entries (omega arith) },
     )
 lawful-simple bytes (TABLE x) c bs at latest h e k =
     let o = k .order in
     let l = one-more (c .tables) x in
-    let n = and-parts _ _ (k .names) in
-    (
+    let n = and-parts _ _ (k .names) in (
       record {
-        few-parties = h .few-parties; few-places = h .few-places;
+        few-parties = h .few-parties;
+        few-places = h .few-places;
         few-tables = omega (arith, ltb-true _ _ (k .limit));
-        few-devices = h .few-devices; few-procedures = h .few-procedures; few-entries = h .few-entries; few-blocks = h .few-blocks;
+        few-devices = h .few-devices;
+        few-procedures = h .few-procedures;
+        few-entries = h .few-entries;
+        few-blocks = h .few-blocks;
         owned = h .owned;
         cells = all-push (λ (t : Table). (0 < t .length) × (length (c .inputs) ≤ t .first) × (t .first + t .length ≤ places c)) (c .tables) x (h .cells) (some (x .length) (not-true _ (k .length)), leb-true _ _ (and-parts _ _ (n .0) .0), leb-true _ _ (n .1));
         procedures = no-procedures c _ _ _ (e .procedures (omega arith)) (e .bodies (omega arith));
-        lie = h .lie; spans = h .spans; entries = h .entries; steps = h .steps; brief = h .brief;
+        lie = h .lie;
+        spans = h .spans;
+        entries = h .entries;
+        steps = h .steps;
+        brief = h .brief;
       },
       record { tables = λ q. absurd (omega arith); procedures = λ q. e .procedures (omega arith); bodies = λ q. e .bodies (omega arith); entries = λ q. e .entries (omega arith) },
     )
@@ -170,27 +198,40 @@ lawful-simple bytes (TABLE x) c bs at latest h e k =
     some m z = let f = eqb-false m 0 z in omega arith
 lawful-simple bytes (DEVICE g) c bs at latest h e k =
     let o = k .order in
-    let l = one-more (c .needs) g in
-    (
+    let l = one-more (c .needs) g in (
       record {
-        few-parties = h .few-parties; few-places = h .few-places; few-tables = h .few-tables;
+        few-parties = h .few-parties;
+        few-places = h .few-places;
+        few-tables = h .few-tables;
         few-devices = omega (arith, ltb-true _ _ (k .limit));
-        few-procedures = h .few-procedures; few-entries = h .few-entries; few-blocks = h .few-blocks;
-        owned = h .owned; cells = h .cells;
+        few-procedures = h .few-procedures;
+        few-entries = h .few-entries;
+        few-blocks = h .few-blocks;
+        owned = h .owned;
+        cells = h .cells;
         procedures = no-procedures c _ _ _ (e .procedures (omega arith)) (e .bodies (omega arith));
-        lie = h .lie; spans = h .spans; entries = h .entries; steps = h .steps; brief = h .brief;
+        lie = h .lie;
+        spans = h .spans;
+        entries = h .entries;
+        steps = h .steps;
+        brief = h .brief;
       },
       record { tables = λ q. absurd (omega arith); procedures = λ q. e .procedures (omega arith); bodies = λ q. e .bodies (omega arith); entries = λ q. e .entries (omega arith) },
     )
 lawful-simple bytes (ENTRY p) c bs at latest h e k =
     let o = k .order in
     let l = one-more (c .entries) p in
-    let s = push-cycle (bodySteps c) (c .entries) p in
-    (
+    let s = push-cycle (bodySteps c) (c .entries) p in (
       record {
-        few-parties = h .few-parties; few-places = h .few-places; few-tables = h .few-tables; few-devices = h .few-devices; few-procedures = h .few-procedures;
+        few-parties = h .few-parties;
+        few-places = h .few-places;
+        few-tables = h .few-tables;
+        few-devices = h .few-devices;
+        few-procedures = h .few-procedures;
         few-entries = omega (arith, ltb-true _ _ (k .limit));
-        few-blocks = h .few-blocks; owned = h .owned; cells = h .cells;
+        few-blocks = h .few-blocks;
+        owned = h .owned;
+        cells = h .cells;
         procedures = carry-procedures c (declareSimple c (ENTRY p)) (length (c .procedures)) (omega arith) (λ j q. refl) 0 0 (c .procedures) bs (omega arith) (h .procedures);
         lie = h .lie;
         spans = h .spans;
@@ -213,30 +254,33 @@ lawful-procedure bytes p b c bs at latest there h e k =
     let none : c .entries ≡ [] = e .entries (omega arith) in
     let count : length (c .spans) ≡ length (allSpans (c .procedures) bs) = ap length (h .spans) in
     let here : below d (length (c .procedures)) ≡ scope c =
-        scopes _ _ _ _ _ _ _ _ (take-whole (λ (p : Procedure). p .height) (c .procedures) (x ∷ [])) (take-whole (λ (p : Procedure). p .steps) (c .procedures) (x ∷ [])) in
+    scopes _ _ _ _ _ _ _ _ (take-whole (λ (p : Procedure). p .height) (c .procedures) (x ∷ [])) (take-whole (λ (p : Procedure). p .steps) (c .procedures) (x ∷ [])) in
     let earlier : (j : ℕ) → j < length (c .procedures) → below d j ≡ below c j =
-        λ j q. scopes _ _ _ _ _ _ _ _ (take-front (λ (p : Procedure). p .height) (c .procedures) (x ∷ []) j (omega arith)) (take-front (λ (p : Procedure). p .steps) (c .procedures) (x ∷ []) j (omega arith)) in
+    λ j q. scopes _ _ _ _ _ _ _ _ (take-front (λ (p : Procedure). p .height) (c .procedures) (x ∷ []) j (omega arith)) (take-front (λ (p : Procedure). p .steps) (c .procedures) (x ∷ []) j (omega arith)) in
     let low = low-block (scope c) b 0 (length (c .spans)) (at + procHead) (k .body .fits) in
     let new : LawfulProcedure d (0 + length (c .procedures)) (0 + length (allSpans (c .procedures) bs)) x b =
-        let zero : 0 + length (c .procedures) ≡ length (c .procedures) = omega arith in
-        let first : 0 + length (allSpans (c .procedures) bs) ≡ length (c .spans) = omega arith in
-        rw (zero, first)
-        (record {
-          party = ltb-true _ _ (k .names);
-          body = subst (λ (w : Scope). KeepsB w 0 (length (c .spans)) (at + procHead) b) (sym here) (k .body .fits);
-          long = refl;
-          height = ap (λ (w : Scope). 1 + highestB (w .heights) b) (sym here);
-          low = omega arith;
-          steps = ap (λ (w : Scope). mostB (w .steps) b) (sym here);
-          brief = leb-true _ _ (k .steps);
-        }) in
-    (
+    let zero : 0 + length (c .procedures) ≡ length (c .procedures) = omega arith in
+    let first : 0 + length (allSpans (c .procedures) bs) ≡ length (c .spans) = omega arith in
+    rw (zero, first)
+    (record {
+      party = ltb-true _ _ (k .names);
+      body = subst (λ (w : Scope). KeepsB w 0 (length (c .spans)) (at + procHead) b) (sym here) (k .body .fits);
+      long = refl;
+      height = ap (λ (w : Scope). 1 + highestB (w .heights) b) (sym here);
+      low = omega arith;
+      steps = ap (λ (w : Scope). mostB (w .steps) b) (sym here);
+      brief = leb-true _ _ (k .steps);
+    }) in (
       record {
-        few-parties = h .few-parties; few-places = h .few-places; few-tables = h .few-tables; few-devices = h .few-devices;
+        few-parties = h .few-parties;
+        few-places = h .few-places;
+        few-tables = h .few-tables;
+        few-devices = h .few-devices;
         few-procedures = omega (arith, ltb-true _ _ (r .0));
         few-entries = h .few-entries;
         few-blocks = omega (arith, k .body .few);
-        owned = h .owned; cells = h .cells;
+        owned = h .owned;
+        cells = h .cells;
         procedures = push-procedure d 0 0 (c .procedures) bs x b (carry-procedures c d (length (c .procedures)) (omega arith) earlier 0 0 (c .procedures) bs (omega arith) (h .procedures)) new;
         lie = push-lie bytes (c .procedures) bs x b (h .lie) there;
         spans = ap (λ (t : List Span). t ++ spansB (at + procHead) b) (h .spans) ∙ sym (push-spans c 0 0 (c .procedures) bs x b (h .procedures));
@@ -273,8 +317,22 @@ accepted-lawful ds k = all-lawful (encode ds) ds nothing [] 0 0 refl start early
   where
     start : Lawful (encode ds) nothing []
     start = record {
-      few-parties = omega arith; few-places = omega arith; few-tables = omega arith; few-devices = omega arith; few-procedures = omega arith; few-entries = omega arith; few-blocks = omega arith;
-      owned = tt; cells = tt; procedures = tt; lie = tt; spans = refl; entries = tt; steps = refl; brief = omega arith;
+      few-parties = omega arith;
+      few-places = omega arith;
+      few-tables = omega arith;
+      few-devices = omega arith;
+      few-procedures = omega arith;
+      few-entries = omega arith;
+      few-blocks = omega arith;
+      owned = tt;
+      cells = tt;
+      procedures = tt;
+      lie = tt;
+      spans = refl;
+      entries = tt;
+      steps = refl;
+      brief = omega arith;
     }
+
     early : Early 0 nothing []
     early = record { tables = λ q. refl; procedures = λ q. refl; bodies = λ q. refl; entries = λ q. refl }

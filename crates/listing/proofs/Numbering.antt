@@ -20,5 +20,5 @@ module _ {X Y : Type 0} (row : ℕ → X → Y) where
   numbered-more before lines lines′ n i k xs x h r e so new =
       let l = length-take-le i xs (omega arith) in
       let step : numbered row n (take (i + 1) xs) ≡ numbered row n (take i xs) ++ (row k x ∷ []) =
-          ap (numbered row n) (take-more xs i x h) ∙ numbered-append n (take i xs) (getD xs i x ∷ []) ∙ rw (l, ← r, ← e) in
+      ap (numbered row n) (take-more xs i x h) ∙ numbered-append n (take i xs) (getD xs i x ∷ []) ∙ rw (l, ← r, ← e) in
       new ∙ ap (λ (t : List Y). t ++ (row k x ∷ [])) so ∙ append-assoc before (numbered row n (take i xs)) (row k x ∷ []) ∙ ap (λ (t : List Y). before ++ t) (sym step)

@@ -91,6 +91,7 @@ module _ {i : ℕ} {bytes : List ℕ} {ps : List Procedure} {before : List Line}
               told = t .1 ∙ ap (λ (u : List Line). u ++ blockLines i 0 Body (p .start) b) m ∙ append-assoc cur (line.Procedure k p ∷ []) (blockLines i 0 Body (p .start) b) ∙ ap (λ (u : List Line). u ++ lines) told ∙ append-assoc before pre lines;
               whole = append-assoc pre lines (procedureLines i k′ after rest) ∙ rw number whole;
             }
+
         go : (c : Contents) (bs : List Block) → length bytes ≤ 8192 → Left i bytes ps before c bs left k n cur → Left i bytes ps before c bs after k′ n′ cur′
         go c bs small l =
             step c bs (l .rest) (l .pre) small

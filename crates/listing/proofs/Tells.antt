@@ -105,11 +105,10 @@ pub block-tells : (i d : ℕ) (r : Role) (bs : List ℕ) (at n next m : ℕ) (be
 block-tells i d r bs at n next m before mid after e p h w (BLOCK x cs) k few low is =
     let same : m ≡ n + 1 = omega arith in
     let t = h w cs (rw same (k .1)) (omega arith) low is in
-    let first = k .0 in
-    (
+    let first = k .0 in (
       omega (arith, t .0),
       t .1 ∙ ap (λ (u : List Line). u ++ sequenceLines i d at cs) p ∙ append-assoc before (line.Block n d r ∷ []) (sequenceLines i d at cs)
-      ∙ ap (λ (y : ℕ). before ++ (line.Block y d r ∷ sequenceLines i d at cs)) (sym first),
+          ∙ ap (λ (y : ℕ). before ++ (line.Block y d r ∷ sequenceLines i d at cs)) (sym first),
     )
 
 -- two blocks, one after the other
@@ -118,11 +117,10 @@ two-tell i d ys zs start second n between next before mid after o h g w b e k j 
     let s : second ≡ start + length ys = omega arith in
     let t = h w b k (omega arith) (omega arith) y in
     let m = t .0 in
-    let u = g w e (rw (s, m) j) (omega arith) (omega arith) z in
-    (
+    let u = g w e (rw (s, m) j) (omega arith) (omega arith) z in (
       omega (arith, u .0),
       u .1 ∙ ap (λ (v : List Line). v ++ blockLines i d Second second e) (t .1) ∙ append-assoc before (blockLines i d First start b) (blockLines i d Second second e)
-      ∙ ap (λ (v : ℕ). before ++ (blockLines i d First start b ++ blockLines i d Second v e)) s,
+          ∙ ap (λ (v : ℕ). before ++ (blockLines i d First start b ++ blockLines i d Second v e)) s,
     )
 
 -- a command, its line first, then its blocks

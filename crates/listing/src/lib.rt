@@ -8,17 +8,15 @@ ghost use Rattle.layout.specs.Packages.{contents as contentsOf};
 ghost use Rattle.package.specs.Loads.{treeOf};
 ghost use Rattle.package.specs.Declares.{contentsOf as holding};
 ghost use Rattle.listing.specs.Lines.{placeLines, bodyLines, listed};
-use std::alloc::AllocError;
-use std::alloc::Global;
-use package::contents::Contents;
-use package::held::Package;
 use bodies::list_procedures;
 use lines::Line;
 use lines::Sort;
-use rows::Cells;
+use package::contents::Contents;
+use package::held::Package;
 use rows::CellRows;
-use rows::Devices;
+use rows::Cells;
 use rows::DeviceRows;
+use rows::Devices;
 use rows::Entries;
 use rows::EntryRows;
 use rows::InputRows;
@@ -29,6 +27,8 @@ use rows::TableRows;
 use rows::Tables;
 use rows::list;
 use rows::list_sort;
+use std::alloc::AllocError;
+use std::alloc::Global;
 
 mod bodies;
 pub mod lines;
@@ -41,7 +41,10 @@ pub mod text;
 fn list_places(lines: &mut Vec<Line>, contents: &Contents) -> Result<(), AllocError>
     ensures { λ r. ⌜ made r (λ _. vec-items (now (lines .exit)) ≡ vec-items (now (lines .entry)) ++ placeLines (holding (now (contents .entry)))) ⌝ }
 {
-    lines.push(Line::Heading { sort: Sort::Places, count: contents.places() })?;
+    lines.push(Line::Heading {
+        sort: Sort::Places,
+        count: contents.places(),
+    })?;
     list::<Inputs>(lines, &contents.inputs, 0)?;
     list::<Cells>(lines, &contents.cells, contents.inputs.len())
 }
@@ -51,8 +54,16 @@ fn list_bodies(lines: &mut Vec<Line>, held: &Package) -> Result<(), AllocError>
     ensures { λ r. ⌜ made r (λ _. vec-items (now (lines .exit)) ≡ vec-items (now (lines .entry)) ++ bodyLines (contentsOf (treeOf (now (held .entry)))) (bodiesOf (treeOf (now (held .entry))))) ⌝ }
 {
     let contents = held.contents();
-    lines.push(Line::Heading { sort: Sort::Procedures, count: contents.procedures.len() })?;
-    list_procedures(lines, held.bytes(), &contents.procedures, contents.inputs.len())
+    lines.push(Line::Heading {
+        sort: Sort::Procedures,
+        count: contents.procedures.len(),
+    })?;
+    list_procedures(
+        lines,
+        held.bytes(),
+        &contents.procedures,
+        contents.inputs.len(),
+    )
 }
 
 // Every declaration of a package by its sort, in order, and every command of its bodies.
@@ -67,6 +78,8 @@ pub fn listing(heap: Global, held: &Package) -> Result<Vec<Line>, AllocError>
     list_sort::<Devices>(&mut lines, Sort::Devices, &contents.needs)?;
     list_bodies(&mut lines, held)?;
     list_sort::<Entries>(&mut lines, Sort::Entries, &contents.entries)?;
-    lines.push(Line::Cycle { steps: contents.steps })?;
+    lines.push(Line::Cycle {
+        steps: contents.steps,
+    })?;
     Ok(lines)
 }

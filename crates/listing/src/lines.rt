@@ -40,15 +40,50 @@ pub enum Role {
 // One line of a listing. `inputs` is how many places are inputs, by which a place has its name.
 #[derive(Clone, Copy)]
 pub enum Line {
-    Heading { sort: Sort, count: usize },
-    Party { number: usize, frame: u64 },
-    Input { number: usize, input: Input },
-    Cell { number: usize, cell: Cell },
-    Table { number: usize, table: Table },
-    Device { number: usize, need: u64 },
-    Procedure { number: usize, procedure: Procedure },
-    Block { number: usize, depth: usize, role: Role },
-    Command { offset: usize, depth: usize, inputs: usize, action: Action },
-    Entry { number: usize, procedure: u8 },
-    Cycle { steps: u64 },
+    Heading {
+        sort: Sort,
+        count: usize,
+    },
+    Party {
+        number: usize,
+        frame: u64,
+    },
+    Input {
+        number: usize,
+        input: Input,
+    },
+    Cell {
+        number: usize,
+        cell: Cell,
+    },
+    Table {
+        number: usize,
+        table: Table,
+    },
+    Device {
+        number: usize,
+        need: u64,
+    },
+    Procedure {
+        number: usize,
+        procedure: Procedure,
+    },
+    Block {
+        number: usize,
+        depth: usize,
+        role: Role,
+    },
+    Command {
+        offset: usize,
+        depth: usize,
+        inputs: usize,
+        action: Action,
+    },
+    Entry {
+        number: usize,
+        procedure: u8,
+    },
+    Cycle {
+        steps: u64,
+    },
 }

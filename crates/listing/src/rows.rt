@@ -9,12 +9,12 @@ ghost use Rattle.listing.specs.declared.lines.Line.{Line as Shown};
 ghost use Rattle.listing.specs.declared.lines.Line.the-variants as line;
 ghost use Rattle.listing.specs.Lines.{section};
 ghost use Rattle.listing.specs.Numbered.{numbered};
-use std::alloc::AllocError;
+use super::lines::Line;
+use super::lines::Sort;
 use layout::Cell;
 use layout::Input;
 use layout::Table;
-use super::lines::Line;
-use super::lines::Sort;
+use std::alloc::AllocError;
 
 // A sort whose declarations are listed one to a line.
 pub trait Rows {
@@ -35,7 +35,10 @@ pub impl Rows for Parties as PartyRows {
     ghost row = { λ n x. line.Party n x };
 
     fn line(number: usize, item: u64) -> Line {
-        Line::Party { number, frame: item }
+        Line::Party {
+            number,
+            frame: item,
+        }
     }
 }
 
@@ -47,7 +50,10 @@ pub impl Rows for Inputs as InputRows {
     ghost row = { λ n x. line.Input n x };
 
     fn line(number: usize, item: Input) -> Line {
-        Line::Input { number, input: item }
+        Line::Input {
+            number,
+            input: item,
+        }
     }
 }
 
@@ -71,7 +77,10 @@ pub impl Rows for Tables as TableRows {
     ghost row = { λ n x. line.Table n x };
 
     fn line(number: usize, item: Table) -> Line {
-        Line::Table { number, table: item }
+        Line::Table {
+            number,
+            table: item,
+        }
     }
 }
 
@@ -95,12 +104,19 @@ pub impl Rows for Entries as EntryRows {
     ghost row = { λ n x. line.Entry n x };
 
     fn line(number: usize, item: u8) -> Line {
-        Line::Entry { number, procedure: item }
+        Line::Entry {
+            number,
+            procedure: item,
+        }
     }
 }
 
 // Adds a line for each of the items, numbered from `first` on.
-pub fn list<R: Rows>(lines: &mut Vec<Line>, items: &[R::Item], first: usize) -> Result<(), AllocError>
+pub fn list<R: Rows>(
+    lines: &mut Vec<Line>,
+    items: &[R::Item],
+    first: usize,
+) -> Result<(), AllocError>
     ensures { λ r. ⌜ made r (λ _. first + length (now (items .entry)) < 2 ^ 64 → vec-items (now (lines .exit)) ≡ vec-items (now (lines .entry)) ++ numbered (R·Rows .row) first (now (items .entry))) ⌝ }
 {
     let mut number = first;
@@ -112,9 +128,16 @@ pub fn list<R: Rows>(lines: &mut Vec<Line>, items: &[R::Item], first: usize) -> 
 }
 
 // Adds a heading with the number of the items, then a line for each.
-pub fn list_sort<R: Rows>(lines: &mut Vec<Line>, sort: Sort, items: &[R::Item]) -> Result<(), AllocError>
+pub fn list_sort<R: Rows>(
+    lines: &mut Vec<Line>,
+    sort: Sort,
+    items: &[R::Item],
+) -> Result<(), AllocError>
     ensures { λ r. ⌜ made r (λ _. vec-items (now (lines .exit)) ≡ vec-items (now (lines .entry)) ++ section sort (R·Rows .row) (now (items .entry))) ⌝ }
 {
-    lines.push(Line::Heading { sort, count: items.len() })?;
+    lines.push(Line::Heading {
+        sort,
+        count: items.len(),
+    })?;
     list::<R>(lines, items, 0)
 }

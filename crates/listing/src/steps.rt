@@ -5,11 +5,11 @@ ghost use Rattle.std.specs.Of.Vec.{vec-items};
 ghost use Rattle.std.specs.Vec.{made};
 ghost use Rattle.listing.specs.Steps.{checkedAll, toldSteps};
 ghost use Rattle.package.specs.Declares.{contentsOf};
+use layout::Procedure;
+use package::contents::Contents;
 use std::alloc::AllocError;
 use std::alloc::Global;
 use std::fmt;
-use layout::Procedure;
-use package::contents::Contents;
 
 // One step: reading starts; so many bytes were read; so much is declared; a procedure was checked; the package is
 // accepted, or refused.
@@ -39,7 +39,10 @@ pub impl fmt::Display for Step as StepDisplay {
             Step::Checked { number, procedure } => {
                 let height = procedure.height;
                 let steps = procedure.steps;
-                write!(f, "procedure {number} checked: height {height}, at most {steps} steps")
+                write!(
+                    f,
+                    "procedure {number} checked: height {height}, at most {steps} steps"
+                )
             }
             Step::Entries { count } => write!(f, "entries: {count}"),
             Step::Accepted { blocks } => write!(f, "accepted, with {blocks} blocks"),
@@ -53,13 +56,26 @@ pub fn steps(heap: Global, contents: &Contents) -> Result<Vec<Step>, AllocError>
     ensures { λ r. ⌜ made r (λ v. vec-items v ≡ toldSteps (contentsOf (now (contents .entry)))) ⌝ }
 {
     let mut told = Vec::new(heap);
-    told.push(Step::Parties { count: contents.parties.len() })?;
-    told.push(Step::Places { inputs: contents.inputs.len(), cells: contents.cells.len() })?;
-    told.push(Step::Tables { count: contents.tables.len() })?;
-    told.push(Step::Devices { count: contents.needs.len() })?;
+    told.push(Step::Parties {
+        count: contents.parties.len(),
+    })?;
+    told.push(Step::Places {
+        inputs: contents.inputs.len(),
+        cells: contents.cells.len(),
+    })?;
+    told.push(Step::Tables {
+        count: contents.tables.len(),
+    })?;
+    told.push(Step::Devices {
+        count: contents.needs.len(),
+    })?;
     tell_checked(&mut told, &contents.procedures)?;
-    told.push(Step::Entries { count: contents.entries.len() })?;
-    told.push(Step::Accepted { blocks: contents.blocks.len() })?;
+    told.push(Step::Entries {
+        count: contents.entries.len(),
+    })?;
+    told.push(Step::Accepted {
+        blocks: contents.blocks.len(),
+    })?;
     Ok(told)
 }
 
@@ -69,7 +85,10 @@ fn tell_checked(told: &mut Vec<Step>, procedures: &[Procedure]) -> Result<(), Al
 {
     let mut number = 0usize;
     for procedure in procedures {
-        told.push(Step::Checked { number, procedure: *procedure })?;
+        told.push(Step::Checked {
+            number,
+            procedure: *procedure,
+        })?;
         number = number.saturating_add(1);
     }
     Ok(())

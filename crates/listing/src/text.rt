@@ -1,11 +1,11 @@
 // The text of a listing's lines.
-use std::fmt;
-use commands::Operation;
-use commands::Plain;
 use super::lines::Action;
 use super::lines::Line;
 use super::lines::Role;
 use super::lines::Sort;
+use commands::Operation;
+use commands::Plain;
+use std::fmt;
 
 // A place by its name: inputs come first in the row of places, then cells.
 #[derive(Clone, Copy)]
@@ -57,7 +57,7 @@ struct Told {
     inputs: usize,
 }
 
-fn operation(operation: Operation) -> &'static str {
+fn name(operation: Operation) -> &'static str {
     match operation {
         Operation::Add => "ADD",
         Operation::Sub => "SUB",
@@ -67,38 +67,95 @@ fn operation(operation: Operation) -> &'static str {
     }
 }
 
+fn sign(operation: Operation) -> &'static str {
+    match operation {
+        Operation::Add => "+",
+        Operation::Sub => "-",
+        Operation::Less => "<",
+        Operation::Same => "=",
+        Operation::Bits => "&",
+    }
+}
+
 impl fmt::Display for Told as ToldDisplay {
     fn fmt<W: fmt::Write>(&self, f: &mut fmt::Formatter<W>) -> fmt::Result {
         let inputs = self.inputs;
         match self.plain {
             Plain::Set { target, value } => {
-                let to = Place { number: target, inputs };
+                let to = Place {
+                    number: target,
+                    inputs,
+                };
                 write!(f, "SET {to} to {value}")
             }
             Plain::Copy { target, source } => {
-                let to = Place { number: target, inputs };
-                let from = Place { number: source, inputs };
+                let to = Place {
+                    number: target,
+                    inputs,
+                };
+                let from = Place {
+                    number: source,
+                    inputs,
+                };
                 write!(f, "COPY {from} to {to}")
             }
-            Plain::Combine { operation: kind, target, left, right } => {
-                let name = operation(kind);
-                let to = Place { number: target, inputs };
-                let one = Place { number: left, inputs };
-                let other = Place { number: right, inputs };
-                write!(f, "{name} {one} and {other} to {to}")
+            Plain::Combine {
+                operation,
+                target,
+                left,
+                right,
+            } => {
+                let name = name(operation);
+                let sign = sign(operation);
+                let to = Place {
+                    number: target,
+                    inputs,
+                };
+                let one = Place {
+                    number: left,
+                    inputs,
+                };
+                let other = Place {
+                    number: right,
+                    inputs,
+                };
+                write!(f, "{name} {one} {sign} {other} to {to}")
             }
-            Plain::Pick { target, table, index } => {
-                let to = Place { number: target, inputs };
-                let at = Place { number: index, inputs };
+            Plain::Pick {
+                target,
+                table,
+                index,
+            } => {
+                let to = Place {
+                    number: target,
+                    inputs,
+                };
+                let at = Place {
+                    number: index,
+                    inputs,
+                };
                 write!(f, "PICK from table {table} at {at} to {to}")
             }
-            Plain::Put { table, index, source } => {
-                let at = Place { number: index, inputs };
-                let from = Place { number: source, inputs };
+            Plain::Put {
+                table,
+                index,
+                source,
+            } => {
+                let at = Place {
+                    number: index,
+                    inputs,
+                };
+                let from = Place {
+                    number: source,
+                    inputs,
+                };
                 write!(f, "PUT {from} into table {table} at {at}")
             }
             Plain::Drive { device, source } => {
-                let from = Place { number: source, inputs };
+                let from = Place {
+                    number: source,
+                    inputs,
+                };
                 write!(f, "DRIVE device {device} with {from}")
             }
         }
@@ -121,17 +178,26 @@ impl fmt::Display for Done as DoneDisplay {
                 write!(f, "{told}")
             }
             Action::When { place } => {
-                let asked = Place { number: place, inputs };
+                let asked = Place {
+                    number: place,
+                    inputs,
+                };
                 write!(f, "WHEN {asked} is not 0")
             }
             Action::Loop { place, times } => {
-                let asked = Place { number: place, inputs };
+                let asked = Place {
+                    number: place,
+                    inputs,
+                };
                 write!(f, "LOOP at most {times} times while {asked} is not 0")
             }
             Action::Grant { frame } => write!(f, "GRANT {frame:016x}"),
             Action::Call { procedure } => write!(f, "CALL procedure {procedure}"),
             Action::Try { frame, place } => {
-                let asked = Place { number: place, inputs };
+                let asked = Place {
+                    number: place,
+                    inputs,
+                };
                 write!(f, "TRY {frame:016x} at {asked}")
             }
         }
@@ -156,41 +222,71 @@ pub impl fmt::Display for Line as LineDisplay {
     fn fmt<W: fmt::Write>(&self, f: &mut fmt::Formatter<W>) -> fmt::Result {
         match *self {
             Line::Heading { sort, count } => write!(f, "{sort}: {count}"),
-            Line::Party { number, frame } => write!(f, "  party     {number:>3}  frame {frame:016x}"),
+            Line::Party { number, frame } => write!(
+                f,
+                "  party     {number:>3}  frame {frame:016x}"
+            ),
             Line::Input { number, input } => {
                 let party = input.party;
                 let value = input.value;
-                write!(f, "  input     {number:>3}  party {party:>3}  value {value:>10}")
+                write!(
+                    f,
+                    "  input     {number:>3}  party {party:>3}  value {value:>10}"
+                )
             }
             Line::Cell { number, cell } => {
                 let value = cell.value;
                 let frame = cell.frame;
-                write!(f, "  cell      {number:>3}             value {value:>10}  frame {frame:016x}")
+                write!(
+                    f,
+                    "  cell      {number:>3}             value {value:>10}  frame {frame:016x}"
+                )
             }
             Line::Table { number, table } => {
                 let first = table.first;
                 let length = table.length;
-                write!(f, "  table     {number:>3}  from cell {first:>3}  length {length:>3}")
+                write!(
+                    f,
+                    "  table     {number:>3}  from cell {first:>3}  length {length:>3}"
+                )
             }
-            Line::Device { number, need } => write!(f, "  device    {number:>3}  need  {need:016x}"),
+            Line::Device { number, need } => write!(
+                f,
+                "  device    {number:>3}  need  {need:016x}"
+            ),
             Line::Procedure { number, procedure } => {
                 let party = procedure.party;
                 let start = procedure.start;
                 let length = procedure.length;
                 let height = procedure.height;
                 let steps = procedure.steps;
-                write!(f, "  procedure {number:>3}  party {party:>3}  body at {start:>4}, {length:>4} bytes  height {height}  at most {steps} steps")
+                write!(
+                    f,
+                    "  procedure {number:>3}  party {party:>3}  body at {start:>4}, {length:>4} bytes  height {height}  at most {steps} steps"
+                )
             }
-            Line::Block { number, depth, role } => {
+            Line::Block {
+                number,
+                depth,
+                role,
+            } => {
                 let indent = Indent(depth);
                 write!(f, "          {indent}block {number}, {role}")
             }
-            Line::Command { offset, depth, inputs, action } => {
+            Line::Command {
+                offset,
+                depth,
+                inputs,
+                action,
+            } => {
                 let indent = Indent(depth);
                 let done = Done { action, inputs };
                 write!(f, "    {offset:>4}    {indent}{done}")
             }
-            Line::Entry { number, procedure } => write!(f, "  entry     {number:>3}  procedure {procedure:>3}"),
+            Line::Entry { number, procedure } => write!(
+                f,
+                "  entry     {number:>3}  procedure {procedure:>3}"
+            ),
             Line::Cycle { steps } => write!(f, "a cycle takes at most {steps} of 1000000 steps"),
         }
     }

@@ -66,8 +66,7 @@ list-commands-loop-command-less t c =
 
 pub list-commands-loop-command-again : need.list-commands-loop-command-again
 list-commands-loop-command-again t c =
-    let l = off-bytes (c .loop-command .inv .1) (c .in-Ok .ensures tt) in
-    (
+    let l = off-bytes (c .loop-command .inv .1) (c .in-Ok .ensures tt) in (
       omega (arith, c .loop-command .inv .0),
       telling-on (c .loop-command .inv .1) (c .in-Ok .ensures tt) _ _ _ (omega (arith, c .saturating-add-offset .ensures, c .saturating-sub .ensures)) (c .in-Continue-next .ensures tt),
     )

@@ -15,8 +15,7 @@ loop-item-holds g c fits = (omega arith, sym (append-nil _))
 pub loop-item-again : need.loop-item-again
 loop-item-again g c fits =
     let i = c .loop-item .inv fits in
-    let n = i .0 in
-    (
+    let n = i .0 in (
       omega (arith, c .saturating-add-number .ensures, c .loop-item-test .taken),
       numbered-more (g .R·Rows .row) _ _ _ _ _ _ _ _ (c .loop-item-test .taken) (c .item-item .is) n (i .1) (c .in-Continue-push .ensures tt .items ∙ ap (λ (x : Line). vec-items (c .loop-item .lines) ++ (x ∷ [])) (c .line .ensures)),
     )

@@ -14,8 +14,7 @@ loop-procedure-holds c = (refl, sym (append-nil _))
 
 pub loop-procedure-again : need.loop-procedure-again
 loop-procedure-again c =
-    let i = c .loop-procedure .inv in
-    (
+    let i = c .loop-procedure .inv in (
       omega (arith, c .saturating-add-number .ensures, c .loop-procedure-test .taken),
       numbered-more (λ n p. step.Checked n p) _ _ _ _ _ _ _ _ (c .loop-procedure-test .taken) (getD-default _ _ _ _ (c .loop-procedure-test .taken)) (omega arith) (i .1) (c .in-Continue-push .ensures tt .items),
     )
