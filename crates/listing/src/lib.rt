@@ -35,7 +35,6 @@ pub mod lines;
 pub mod refusals;
 pub mod rows;
 pub mod steps;
-pub mod text;
 
 // Lists the places, the inputs first.
 fn list_places(lines: &mut Vec<Line>, contents: &Contents) -> Result<(), AllocError>

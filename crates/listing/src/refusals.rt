@@ -1,8 +1,7 @@
-// Why a package is refused, in words, and the bytes around the place.
+// Why a package is refused, in words.
 ghost use mathlib.Core.Path.{_≡_};
 ghost use Rattle.listing.specs.Causes.{causeText};
 use package::refusal::Refusal;
-use std::fmt;
 
 // The cause of a refusal, in one sentence.
 pub fn cause(refusal: Refusal) -> &'static str
@@ -23,32 +22,5 @@ pub fn cause(refusal: Refusal) -> &'static str
         Refusal::TooManySteps(_) => "a body, or the cycle, takes more than 1000000 steps",
         Refusal::AfterFinish(_) => "bytes follow FINISH",
         Refusal::Memory => "there is not enough memory",
-    }
-}
-
-// The bytes from eight before an offset to eight behind it, the one at the offset in brackets.
-#[derive(Drop)]
-pub struct Excerpt<'a> {
-    pub bytes: &'a [u8],
-    pub offset: usize,
-}
-
-pub impl<'a> fmt::Display for Excerpt<'a> as ExcerptDisplay {
-    fn fmt<W: fmt::Write>(&self, f: &mut fmt::Formatter<W>) -> fmt::Result {
-        let offset = self.offset;
-        let first = offset.saturating_sub(8);
-        write!(f, "bytes from offset {first} on:")?;
-        for (i, byte) in self.bytes.iter().enumerate().skip(first).take(17) {
-            let shown = *byte;
-            if i == offset {
-                write!(f, " [{shown:02x}]")?;
-            } else {
-                write!(f, " {shown:02x}")?;
-            }
-        }
-        if offset >= self.bytes.len() {
-            f.write_str(" [end]")?;
-        }
-        Ok(())
     }
 }

@@ -1,10 +1,10 @@
 // The text of a listing's lines.
-use super::lines::Action;
-use super::lines::Line;
-use super::lines::Role;
-use super::lines::Sort;
 use commands::Operation;
 use commands::Plain;
+use listing::lines::Action;
+use listing::lines::Line;
+use listing::lines::Role;
+use listing::lines::Sort;
 use std::fmt;
 
 // A place by its name: inputs come first in the row of places, then cells.
@@ -25,28 +25,24 @@ impl fmt::Display for Place as PlaceDisplay {
     }
 }
 
-impl fmt::Display for Sort as SortDisplay {
-    fn fmt<W: fmt::Write>(&self, f: &mut fmt::Formatter<W>) -> fmt::Result {
-        match self {
-            Sort::Parties => f.write_str("parties"),
-            Sort::Places => f.write_str("places"),
-            Sort::Tables => f.write_str("tables"),
-            Sort::Devices => f.write_str("devices"),
-            Sort::Procedures => f.write_str("procedures"),
-            Sort::Entries => f.write_str("entries"),
-        }
+fn sort_name(sort: Sort) -> &'static str {
+    match sort {
+        Sort::Parties => "parties",
+        Sort::Places => "places",
+        Sort::Tables => "tables",
+        Sort::Devices => "devices",
+        Sort::Procedures => "procedures",
+        Sort::Entries => "entries",
     }
 }
 
-impl fmt::Display for Role as RoleDisplay {
-    fn fmt<W: fmt::Write>(&self, f: &mut fmt::Formatter<W>) -> fmt::Result {
-        match self {
-            Role::Body => f.write_str("the body"),
-            Role::First => f.write_str("if so"),
-            Role::Second => f.write_str("if not"),
-            Role::Turn => f.write_str("each turn"),
-            Role::Granted => f.write_str("under the grant"),
-        }
+fn role_name(role: Role) -> &'static str {
+    match role {
+        Role::Body => "the body",
+        Role::First => "if so",
+        Role::Second => "if not",
+        Role::Turn => "each turn",
+        Role::Granted => "under the grant",
     }
 }
 
@@ -218,10 +214,17 @@ impl fmt::Display for Indent as IndentDisplay {
     }
 }
 
-pub impl fmt::Display for Line as LineDisplay {
+// The text of a line.
+#[derive(Clone, Copy)]
+pub struct LineText(pub Line);
+
+pub impl fmt::Display for LineText as LineTextDisplay {
     fn fmt<W: fmt::Write>(&self, f: &mut fmt::Formatter<W>) -> fmt::Result {
-        match *self {
-            Line::Heading { sort, count } => write!(f, "{sort}: {count}"),
+        match self.0 {
+            Line::Heading { sort, count } => {
+                let name = sort_name(sort);
+                write!(f, "{name}: {count}")
+            }
             Line::Party { number, frame } => write!(
                 f,
                 "  party     {number:>3}  frame {frame:016x}"
@@ -271,7 +274,8 @@ pub impl fmt::Display for Line as LineDisplay {
                 role,
             } => {
                 let indent = Indent(depth);
-                write!(f, "          {indent}block {number}, {role}")
+                let when = role_name(role);
+                write!(f, "          {indent}block {number}, {when}")
             }
             Line::Command {
                 offset,

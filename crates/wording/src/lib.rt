@@ -1,0 +1,4 @@
+// The text of listings, steps and refusals.
+pub mod excerpts;
+pub mod lines;
+pub mod steps;
