@@ -8,10 +8,17 @@ use mathlib.Core.Bool.{cond}
 use lib.ListN.{length, getD, take, drop, length-drop}
 use lib.Seq.{take-all}
 use Rattle.std.proofs.shelf.Tests.{cond-both, cond-false, lt-leb, eqb-true, eqb-false}
-use Rattle.layout.specs.Tree.{ADD, SUB, LESS, SAME, BITS, SET, COPY, COMBINE, PICK, PUT, DRIVE, WHEN, TRY}
-use Rattle.layout.specs.Bytes.{be32, be64}
+use Rattle.layout.specs.Tree.{Plain, SET, WHEN, TRY}
+use Rattle.layout.specs.Bytes.{be16, be32, be64}
+use Rattle.layout.specs.Layout as flat
 use Rattle.layout.specs.Layout.{Flat}
-use Rattle.layout.specs.Front.{Front, got, bad, need, front, byCode}
+use Rattle.layout.specs.Front.{Front, got, bad, need, setAt, pairAt, tripleAt, choiceAt, loopAt, grantAt, callAt, front, byCode}
+use Rattle.layout.proofs.Fronts.{met}
+use denote.Ref.{RefT}
+use Rattle.std.specs.declared.result.Result.{Result}
+use Rattle.commands.specs.declared.Command.{Command}
+use Rattle.commands.specs.declared.Unread.{Unread}
+use Rattle.commands.specs.Reads.{flatOf, Reads, oneBlock, twoBlocks}
 
 pub rest-all : {X : Type 0} (n : ℕ) (xs : List X) → take (length xs - n) (drop n xs) ≡ drop n xs
 rest-all n xs = take-all (length xs - n) (drop n xs) (omega (arith, length-drop n xs))
@@ -89,3 +96,37 @@ short-block bs some least top when loop grant call try =
 pub some-byte : (bs : List ℕ) → 1 ≤ getD bs 0 0 → 0 < length bs
 some-byte [] h = h
 some-byte (x ∷ bs) h = omega arith
+
+-- whole commands, by the bytes that they take
+
+module _ (bs rest : List ℕ) where
+  pub pair-got : (c : ℕ → ℕ → Plain) → 3 ≤ length bs → rest ≡ drop 3 bs → pairAt c bs ≡ got (flat.plain (c (getD bs 1 0) (getD bs 2 0))) rest
+  pair-got c h e = met 8 3 bs _ h ∙ ap (λ (r : List ℕ). got (flat.plain (c (getD bs 1 0) (getD bs 2 0))) r) (sym e)
+
+  pub triple-got : (c : ℕ → ℕ → ℕ → Plain) → 4 ≤ length bs → rest ≡ drop 4 bs → tripleAt c bs ≡ got (flat.plain (c (getD bs 1 0) (getD bs 2 0) (getD bs 3 0))) rest
+  triple-got c h e = met 8 4 bs _ h ∙ ap (λ (r : List ℕ). got (flat.plain (c (getD bs 1 0) (getD bs 2 0) (getD bs 3 0))) r) (sym e)
+
+  pub set-got : (n : ℕ) → 6 ≤ length bs → n ≡ be32 bs 2 → rest ≡ drop 6 bs → setAt bs ≡ got (flat.plain (SET (getD bs 1 0) n)) rest
+  set-got n h k e = met 8 6 bs _ h ∙ rw (← k, ← e)
+
+  pub call-got : 2 ≤ length bs → rest ≡ drop 2 bs → callAt bs ≡ got (flat.call (getD bs 1 0)) rest
+  call-got h e = met 8 2 bs _ h ∙ ap (λ (r : List ℕ). got (flat.call (getD bs 1 0)) r) (sym e)
+
+  pub loop-got : (l : ℕ) → 5 ≤ length bs → l ≡ be16 bs 3 → rest ≡ drop 5 bs → loopAt bs ≡ oneBlock (λ y. flat.loop (getD bs 1 0) (getD bs 2 0) y) l rest
+  loop-got l h k e = met 8 5 bs _ h ∙ rw (← k, ← e)
+
+  pub grant-got : (g l : ℕ) → 11 ≤ length bs → g ≡ be64 bs 1 → l ≡ be16 bs 9 → rest ≡ drop 11 bs → grantAt bs ≡ oneBlock (λ y. flat.grant g y) l rest
+  grant-got g l h f k e = met 8 11 bs _ h ∙ rw (← f, ← k, ← e)
+
+  pub when-got : (l m : ℕ) → 6 ≤ length bs → l ≡ be16 bs 2 → m ≡ be16 bs 4 → rest ≡ drop 6 bs → choiceAt (WHEN (getD bs 1 0)) 2 bs ≡ twoBlocks (WHEN (getD bs 1 0)) l m rest
+  when-got l m h j k e = met 8 6 bs _ h ∙ rw (← j, ← k, ← e)
+
+  pub try-got : (g l m : ℕ) → 14 ≤ length bs → g ≡ be64 bs 1 → l ≡ be16 bs 10 → m ≡ be16 bs 12 → rest ≡ drop 14 bs → choiceAt (TRY (be64 bs 1) (getD bs 9 0)) 10 bs ≡ twoBlocks (TRY g (getD bs 9 0)) l m rest
+  try-got g l m h f j k e = met 8 14 bs _ h ∙ rw (← f, ← j, ← k, ← e)
+
+-- what was read of a front that is this one
+pub reads-as : (f g : Front Flat) (r : Result (Command × RefT (List ℕ)) Unread) → f ≡ g → Reads g r → Reads f r
+reads-as f g r e h = rw e h
+
+pub told-as : (f : Front Flat) (c d : Command) (rest : List ℕ) → d ≡ c → f ≡ got (flatOf c) rest → f ≡ got (flatOf d) rest
+told-as f c d rest e h = rw e h

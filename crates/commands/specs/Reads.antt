@@ -8,7 +8,7 @@ use Rattle.std.specs.Results.{Cases}
 use Rattle.std.specs.declared.result.Result.{Result}
 use Rattle.layout.specs.Tree as tree
 use Rattle.layout.specs.Layout.{Flat, plain, choose, loop, grant, call}
-use Rattle.layout.specs.Front.{Front, got, bad}
+use Rattle.layout.specs.Front.{Front, got, bad, cut}
 use Rattle.commands.specs.declared.Operation.{Operation}
 use Rattle.commands.specs.declared.Operation.the-variants.{Add, Sub, Less, Same, Bits}
 use Rattle.commands.specs.declared.Plain.{Plain}
@@ -49,6 +49,13 @@ unread PastEnd = 8
 -- r is what f says
 abbrev pub Reads : Front Flat → Result (Command × RefT (List ℕ)) Unread → Type 0
 Reads f r = Cases r (λ p. f ≡ got (flatOf (p .0)) (p .1 .now)) (λ e. f ≡ bad (unread e))
+
+-- a command with one block of l bytes, and a choice with two, at the front of what follows their operands
+abbrev pub oneBlock : (List ℕ → Flat) → ℕ → List ℕ → Front Flat
+oneBlock c l bs = cut 8 l bs (λ y after. got (c y) after)
+
+abbrev pub twoBlocks : tree.Choice → ℕ → ℕ → List ℕ → Front Flat
+twoBlocks c l m bs = cut 8 l bs (λ y rest. cut 8 m rest (λ z after. got (choose c y z) after))
 
 -- the first n bytes and the rest, or there are not so many
 abbrev pub CutOff : ℕ → List ℕ → Result (RefT (List ℕ) × RefT (List ℕ)) Unread → Type 0

@@ -4,7 +4,9 @@ ghost use Prim.Native.Nat.{ℕ, _+_, _-_, _*_, _<_, _≤_};
 ghost use lib.ListN.{length, getD, take, drop};
 ghost use Rattle.std.specs.Results.{Cases};
 ghost use Rattle.layout.specs.Front.{front};
-ghost use Rattle.commands.specs.Reads.{Reads, CutOff};
+ghost use Rattle.layout.specs.Layout.{loop as flatLoop, grant as flatGrant};
+ghost use Rattle.layout.specs.Tree.{WHEN, TRY};
+ghost use Rattle.commands.specs.Reads.{Reads, CutOff, oneBlock, twoBlocks};
 
 // What combines two values.
 #[derive(Clone, Copy, Debug, PartialEq, Eq)]
@@ -115,6 +117,19 @@ fn cut<'a>(bytes: &'a [u8], n: u16) -> Result<(&'a [u8], &'a [u8]), Unread>
     Ok(bytes.split_at(n))
 }
 
+// Plain commands, from their operands.
+fn set<'a>(target: u8, value: u32) -> Command<'a>
+    ensures { λ r. ⌜ r ≡ Command.Plain (Plain.Set target value) ⌝ }
+{
+    Command::Plain(Plain::Set { target, value })
+}
+
+fn copy<'a>(target: u8, source: u8) -> Command<'a>
+    ensures { λ r. ⌜ r ≡ Command.Plain (Plain.Copy target source) ⌝ }
+{
+    Command::Plain(Plain::Copy { target, source })
+}
+
 fn combine<'a>(operation: Operation, target: u8, left: u8, right: u8) -> Command<'a>
     ensures { λ r. ⌜ r ≡ Command.Plain (Plain.Combine operation target left right) ⌝ }
 {
@@ -126,57 +141,109 @@ fn combine<'a>(operation: Operation, target: u8, left: u8, right: u8) -> Command
     })
 }
 
+fn pick<'a>(target: u8, table: u8, index: u8) -> Command<'a>
+    ensures { λ r. ⌜ r ≡ Command.Plain (Plain.Pick target table index) ⌝ }
+{
+    Command::Plain(Plain::Pick {
+        target,
+        table,
+        index,
+    })
+}
+
+fn put<'a>(table: u8, index: u8, source: u8) -> Command<'a>
+    ensures { λ r. ⌜ r ≡ Command.Plain (Plain.Put table index source) ⌝ }
+{
+    Command::Plain(Plain::Put {
+        table,
+        index,
+        source,
+    })
+}
+
+fn drive<'a>(device: u8, source: u8) -> Command<'a>
+    ensures { λ r. ⌜ r ≡ Command.Plain (Plain.Drive device source) ⌝ }
+{
+    Command::Plain(Plain::Drive { device, source })
+}
+
 // The commands without blocks that call nothing.
 fn decode_plain<'a>(bytes: &'a [u8]) -> Result<(Command<'a>, &'a [u8]), Unread>
     ensures { λ r. ⌜ ((0x0B ≤ getD (now (bytes .entry)) 0 0 → getD (now (bytes .entry)) 0 0 ≤ 0x0F → ⊥) → Reads (front (now (bytes .entry))) r) ⌝ }
 {
     match bytes {
-        [0x01, x, n3, n2, n1, n0, rest @ ..] => Ok((
-            Command::Plain(Plain::Set {
-                target: *x,
-                value: number32(*n3, *n2, *n1, *n0),
-            }),
-            rest,
-        )),
-        [0x02, x, a, rest @ ..] => Ok((
-            Command::Plain(Plain::Copy {
-                target: *x,
-                source: *a,
-            }),
-            rest,
-        )),
+        [0x01, x, n3, n2, n1, n0, rest @ ..] => Ok((set(*x, number32(*n3, *n2, *n1, *n0)), rest)),
+        [0x02, x, a, rest @ ..] => Ok((copy(*x, *a), rest)),
         [0x03, x, a, b, rest @ ..] => Ok((combine(Operation::Add, *x, *a, *b), rest)),
         [0x04, x, a, b, rest @ ..] => Ok((combine(Operation::Sub, *x, *a, *b), rest)),
         [0x05, x, a, b, rest @ ..] => Ok((combine(Operation::Less, *x, *a, *b), rest)),
         [0x06, x, a, b, rest @ ..] => Ok((combine(Operation::Same, *x, *a, *b), rest)),
         [0x07, x, a, b, rest @ ..] => Ok((combine(Operation::Bits, *x, *a, *b), rest)),
-        [0x08, x, t, a, rest @ ..] => Ok((
-            Command::Plain(Plain::Pick {
-                target: *x,
-                table: *t,
-                index: *a,
-            }),
-            rest,
-        )),
-        [0x09, t, a, b, rest @ ..] => Ok((
-            Command::Plain(Plain::Put {
-                table: *t,
-                index: *a,
-                source: *b,
-            }),
-            rest,
-        )),
-        [0x0A, d, a, rest @ ..] => Ok((
-            Command::Plain(Plain::Drive {
-                device: *d,
-                source: *a,
-            }),
-            rest,
-        )),
+        [0x08, x, t, a, rest @ ..] => Ok((pick(*x, *t, *a), rest)),
+        [0x09, t, a, b, rest @ ..] => Ok((put(*t, *a, *b), rest)),
+        [0x0A, d, a, rest @ ..] => Ok((drive(*d, *a), rest)),
         [0x01..=0x0A, ..] => Err(Unread::PastEnd),
         [] => Err(Unread::PastEnd),
         [_, ..] => Err(Unread::NoSuchByte),
     }
+}
+
+// A WHEN, whose two blocks have these lengths.
+fn when<'a>(place: u8, l: u16, m: u16, rest: &'a [u8]) -> Result<(Command<'a>, &'a [u8]), Unread>
+    ensures { λ r. ⌜ Reads (twoBlocks (WHEN place) l m (now (rest .entry))) r ⌝ }
+{
+    let (first, rest) = cut(rest, l)?;
+    let (second, rest) = cut(rest, m)?;
+    let command = Command::When {
+        place,
+        first,
+        second,
+    };
+    Ok((command, rest))
+}
+
+// A TRY, whose two blocks have these lengths.
+fn attempt<'a>(
+    frame: u64,
+    place: u8,
+    l: u16,
+    m: u16,
+    rest: &'a [u8],
+) -> Result<(Command<'a>, &'a [u8]), Unread>
+    ensures { λ r. ⌜ Reads (twoBlocks (TRY frame place) l m (now (rest .entry))) r ⌝ }
+{
+    let (first, rest) = cut(rest, l)?;
+    let (second, rest) = cut(rest, m)?;
+    let command = Command::Try {
+        frame,
+        place,
+        first,
+        second,
+    };
+    Ok((command, rest))
+}
+
+// A LOOP, whose block has this length.
+fn repeat<'a>(
+    place: u8,
+    times: u8,
+    l: u16,
+    rest: &'a [u8],
+) -> Result<(Command<'a>, &'a [u8]), Unread>
+    ensures { λ r. ⌜ Reads (oneBlock (λ y. flatLoop place times y) l (now (rest .entry))) r ⌝ }
+{
+    let (body, rest) = cut(rest, l)?;
+    let command = Command::Loop { place, times, body };
+    Ok((command, rest))
+}
+
+// A GRANT, whose block has this length.
+fn granting<'a>(frame: u64, l: u16, rest: &'a [u8]) -> Result<(Command<'a>, &'a [u8]), Unread>
+    ensures { λ r. ⌜ Reads (oneBlock (λ y. flatGrant frame y) l (now (rest .entry))) r ⌝ }
+{
+    let (body, rest) = cut(rest, l)?;
+    let command = Command::Grant { frame, body };
+    Ok((command, rest))
 }
 
 // The command at the front of a block, and the bytes behind it.
@@ -185,32 +252,12 @@ pub fn decode<'a>(bytes: &'a [u8]) -> Result<(Command<'a>, &'a [u8]), Unread>
 {
     match bytes {
         [0x0B, a, l1, l0, m1, m0, rest @ ..] => {
-            let (first, rest) = cut(rest, number16(*l1, *l0))?;
-            let (second, rest) = cut(rest, number16(*m1, *m0))?;
-            Ok((
-                Command::When {
-                    place: *a,
-                    first,
-                    second,
-                },
-                rest,
-            ))
+            when(*a, number16(*l1, *l0), number16(*m1, *m0), rest)
         }
-        [0x0C, a, k, l1, l0, rest @ ..] => {
-            let (body, rest) = cut(rest, number16(*l1, *l0))?;
-            Ok((
-                Command::Loop {
-                    place: *a,
-                    times: *k,
-                    body,
-                },
-                rest,
-            ))
-        }
+        [0x0C, a, k, l1, l0, rest @ ..] => repeat(*a, *k, number16(*l1, *l0), rest),
         [0x0D, g7, g6, g5, g4, g3, g2, g1, g0, l1, l0, rest @ ..] => {
             let frame = number64(*g7, *g6, *g5, *g4, *g3, *g2, *g1, *g0);
-            let (body, rest) = cut(rest, number16(*l1, *l0))?;
-            Ok((Command::Grant { frame, body }, rest))
+            granting(frame, number16(*l1, *l0), rest)
         }
         [0x0E, p, rest @ ..] => Ok((Command::Call { procedure: *p }, rest)),
         [
@@ -231,17 +278,7 @@ pub fn decode<'a>(bytes: &'a [u8]) -> Result<(Command<'a>, &'a [u8]), Unread>
             rest @ ..,
         ] => {
             let frame = number64(*g7, *g6, *g5, *g4, *g3, *g2, *g1, *g0);
-            let (first, rest) = cut(rest, number16(*l1, *l0))?;
-            let (second, rest) = cut(rest, number16(*m1, *m0))?;
-            Ok((
-                Command::Try {
-                    frame,
-                    place: *a,
-                    first,
-                    second,
-                },
-                rest,
-            ))
+            attempt(frame, *a, number16(*l1, *l0), number16(*m1, *m0), rest)
         }
         [0x0B..=0x0F, ..] => Err(Unread::PastEnd),
         _ => decode_plain(bytes),

@@ -5,18 +5,24 @@ use mathlib.Core.List.{List, [], _∷_, _++_}
 use Prim.Native.Nat.{ℕ, suc, _+_, _<_, _≤_}
 use native.Mathlib.Omega.{arith}
 use lib.Dec.{eqb, leb}
-use lib.ListN.{length, getD}
+use lib.ListN.{length, getD, drop}
 use mir.Val.{Fits}
 use mir.Syntax.{w8}
 use Rattle.std.proofs.shelf.Tests.{cond-both, cond-true, cond-false, eqb-true, eqb-false, eq-eqb, ne-eqb, leb-true, le-leb, lt-leb, and-parts}
-use Rattle.layout.specs.Front.{Front, got, bad}
+use Rattle.layout.specs.Bytes.{be16}
+use Rattle.layout.specs.Front.{Front, got, bad, cut}
 use Rattle.layout.specs.Reading.{Got, ok, fault, demand}
-use Rattle.layout.specs.Declarations.{Item, Contents, lead, itemBytes}
-use Rattle.layout.specs.Packages.{byLead, finish, nextItem, leads, readAll}
+use Rattle.layout.specs.Declarations.{Item, proc, Contents, lead, itemBytes}
+use Rattle.layout.specs.Packages.{procAt, byLead, finish, nextItem, leads, readAll}
 use Rattle.layout.proofs.Fronts.{True}
 use Rattle.layout.proofs.Completes.{passes}
 use Rattle.layout.proofs.Items.{lead-true, led, rest}
-use Rattle.package.specs.Items.{Fronted}
+use Rattle.layout.proofs.Fronts.{met}
+use denote.Ref.{RefT}
+use Rattle.std.specs.declared.option.Option.{Option}
+use Rattle.std.specs.declared.option.Option.the-variants.{None, Some}
+use Rattle.package.specs.declared.declarations.Declaration.{Declaration}
+use Rattle.package.specs.Items.{ReadsItem, ReadsProcedure, Fronted}
 use Rattle.package.proofs.Turns.{bytes-all}
 use Rattle.commands.proofs.Rest.{by-byte, unmet}
 
@@ -28,13 +34,13 @@ Cut g = g ≡ bad 2
 
 -- a declaration that the bytes cut short
 pub short-item : (bs : List ℕ) → 0x81 ≤ getD bs 0 0 → getD bs 0 0 ≤ 0x87 → (getD bs 0 0 ≡ 0x81 → length bs < 9) → (getD bs 0 0 ≡ 0x82 → length bs < 6) → (getD bs 0 0 ≡ 0x83 → length bs < 13) → (getD bs 0 0 ≡ 0x84 → length bs < 3) → (getD bs 0 0 ≡ 0x85 → length bs < 9) → (getD bs 0 0 ≡ 0x86 → length bs < 4) → (getD bs 0 0 ≡ 0x87 → length bs < 2) → byLead (getD bs 0 0) bs ≡ bad 2
-short-item bs least top party input cell table device proc entry =
+short-item bs least top party input cell table device body entry =
     by-byte Cut (getD bs 0 0) 0x81 _ _ (λ e. unmet 2 9 bs _ (party e)) (λ n1.
     by-byte Cut (getD bs 0 0) 0x82 _ _ (λ e. unmet 2 6 bs _ (input e)) (λ n2.
     by-byte Cut (getD bs 0 0) 0x83 _ _ (λ e. unmet 2 13 bs _ (cell e)) (λ n3.
     by-byte Cut (getD bs 0 0) 0x84 _ _ (λ e. unmet 2 3 bs _ (table e)) (λ n4.
     by-byte Cut (getD bs 0 0) 0x85 _ _ (λ e. unmet 2 9 bs _ (device e)) (λ n5.
-    by-byte Cut (getD bs 0 0) 0x86 _ _ (λ e. unmet 2 4 bs _ (proc e)) (λ n6.
+    by-byte Cut (getD bs 0 0) 0x86 _ _ (λ e. unmet 2 4 bs _ (body e)) (λ n6.
     by-byte Cut (getD bs 0 0) 0x87 _ _ (λ e. unmet 2 2 bs _ (entry e)) (λ n7. absurd (omega arith))))))))
 
 module _ (f : ℕ) (s : Contents) (at latest : ℕ) where
@@ -88,3 +94,14 @@ fronted bs at latest i after some h o t small e =
   where
     first : (bs : List ℕ) (i : Item) (after : List ℕ) → itemBytes i ++ after ≡ bs → lead i ≡ getD bs 0 0
     first bs i after w = rw led at (ap (λ (xs : List ℕ). getD xs 0 0) w)
+
+-- a procedure, by the bytes behind its operands
+pub item-as : (bs : List ℕ) (n : ℕ) (rest : List ℕ) → byLead (getD bs 0 0) bs ≡ procAt bs → 4 ≤ length bs → n ≡ be16 bs 2 → rest ≡ drop 4 bs → (r : Option (Declaration × RefT (List ℕ))) → ReadsProcedure (getD bs 1 0) n rest r → ReadsItem bs r
+item-as bs n rest e h k t r d = carry r d
+  where
+    same : byLead (getD bs 0 0) bs ≡ cut 2 n rest (λ y after. got (proc (getD bs 1 0) y) after)
+    same = e ∙ met 2 4 bs _ h ∙ rw (← k, ← t)
+
+    carry : (r : Option (Declaration × RefT (List ℕ))) → ReadsProcedure (getD bs 1 0) n rest r → ReadsItem bs r
+    carry None d = same ∙ d
+    carry (Some x) d = same ∙ d

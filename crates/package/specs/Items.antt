@@ -8,7 +8,7 @@ use Rattle.std.specs.Options.{Cases as BySome}
 use Rattle.std.specs.Results.{Cases}
 use Rattle.std.specs.declared.option.Option.{Option}
 use Rattle.std.specs.declared.result.Result.{Result}
-use Rattle.layout.specs.Front.{got, bad}
+use Rattle.layout.specs.Front.{got, bad, cut}
 use Rattle.layout.specs.Reading.{Got, ok, fault}
 use Rattle.layout.specs.Declarations.{PARTY, INPUT, CELL, TABLE, DEVICE, ENTRY, Item, simple, proc, itemBytes, lead, Contents}
 use Rattle.layout.specs.Packages.{byLead, nextItem, readAll}
@@ -31,6 +31,11 @@ itemOf (declaration.Entry p) = simple (ENTRY p)
 -- r is what the bytes are read as, by the byte that leads them
 abbrev pub ReadsItem : List ℕ → Option (Declaration × RefT (List ℕ)) → Type 0
 ReadsItem bs r = BySome r (byLead (getD bs 0 0) bs ≡ bad 2) (λ p. byLead (getD bs 0 0) bs ≡ got (itemOf (p .0)) (p .1 .now))
+
+-- a procedure whose body of n bytes stands at the front of these bytes, or they are cut short
+abbrev pub ReadsProcedure : ℕ → ℕ → List ℕ → Option (Declaration × RefT (List ℕ)) → Type 0
+ReadsProcedure p n bs r =
+    BySome r (cut 2 n bs (λ y after. got (proc p y) after) ≡ bad 2) (λ d. cut 2 n bs (λ y after. got (proc p y) after) ≡ got (itemOf (d .0)) (d .1 .now))
 
 -- a declaration at the front: it is behind what came before, and the reading goes on behind it
 pub record Fronted (bs : List ℕ) (at latest : ℕ) (i : Item) (after : List ℕ) : Type 0 where

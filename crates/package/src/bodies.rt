@@ -392,6 +392,29 @@ fn choose<'a>(
     })
 }
 
+// A loop: one step, and for each turn the reading of its place and the block.
+fn repeated(turn: Cost, times: u8) -> Cost
+    ensures { λ r. ⌜ (r .steps ≡ capped (capped (capped (turn .steps + 1) * times) + 1)) × (r .highest ≡ turn .highest) ⌝ }
+{
+    let turns = turn.steps
+        .saturating_add(1)
+        .saturating_mul(u64::from(times));
+    Cost {
+        steps: turns.saturating_add(1),
+        highest: turn.highest,
+    }
+}
+
+// A grant: one step, and its block.
+fn granted(under: Cost) -> Cost
+    ensures { λ r. ⌜ (r .steps ≡ capped (under .steps + 1)) × (r .highest ≡ under .highest) ⌝ }
+{
+    Cost {
+        steps: under.steps.saturating_add(1),
+        highest: under.highest,
+    }
+}
+
 // A command at the offset `at`: its own checks, then its blocks, and what it comes to.
 fn step<'a, 'b>(
     command: Command<'a>,
@@ -409,64 +432,42 @@ fn step<'a, 'b>(
     ensures walks { λ r. ⌜ WalksOne (scopeOf (scope .entry)) (flatOf (command .entry)) at (nest .depth) (nest .waiting) (vec-items (now (blocks .entry))) (vec-items (now (blocks .exit))) r ⌝ }
 {
     first_fault(command, scope, at, nest.depth, blocks.len() + nest.waiting)?;
+    let inner = Nest {
+        depth: nest.depth + 1,
+        waiting: nest.waiting,
+    };
     match command {
         Command::Plain(_) => Ok(Cost {
             steps: 1,
             highest: 0,
         }),
-        Command::When {
-            place: _,
+        Command::When { first, second, .. } => choose(
             first,
             second,
-        } => choose(first, second, scope, at + 6, end, nest, blocks),
-        Command::Loop {
-            place: _,
-            times,
-            body,
-        } => {
-            let turn = block(
-                body,
-                scope,
-                at + 5,
-                end,
-                Nest {
-                    depth: nest.depth + 1,
-                    waiting: nest.waiting,
-                },
-                blocks,
-            )?;
-            Ok(Cost {
-                steps: turn.steps
-                    .saturating_add(1)
-                    .saturating_mul(u64::from(times))
-                    .saturating_add(1),
-                highest: turn.highest,
-            })
+            scope,
+            at + 6,
+            end,
+            nest,
+            blocks,
+        ),
+        Command::Loop { times, body, .. } => {
+            let turn = block(body, scope, at + 5, end, inner, blocks)?;
+            Ok(repeated(turn, times))
         }
-        Command::Grant { frame: _, body } => {
-            let under = block(
-                body,
-                scope,
-                at + 11,
-                end,
-                Nest {
-                    depth: nest.depth + 1,
-                    waiting: nest.waiting,
-                },
-                blocks,
-            )?;
-            Ok(Cost {
-                steps: under.steps.saturating_add(1),
-                highest: under.highest,
-            })
+        Command::Grant { body, .. } => {
+            let under = block(body, scope, at + 11, end, inner, blocks)?;
+            Ok(granted(under))
         }
         Command::Call { procedure } => Ok(call(scope.procedures, procedure)),
-        Command::Try {
-            frame: _,
-            place: _,
+        Command::Try { first, second, .. } => choose(
             first,
             second,
-        } => choose(first, second, scope, at + 14, end, nest, blocks),
+            scope,
+            at + 14,
+            end,
+            nest,
+            blocks,
+        ),
     }
 }
 

@@ -2,9 +2,9 @@
 ghost use mathlib.Core.Path.{_≡_};
 ghost use Prim.Native.Nat.{ℕ, _+_, _-_, _^_, _<_, _≤_};
 ghost use lib.ListN.{length, getD};
-ghost use Rattle.layout.specs.Declarations.{lead};
+ghost use Rattle.layout.specs.Declarations.{TABLE, lead, simple};
 ghost use Rattle.layout.specs.Packages.{leads as mayLead};
-ghost use Rattle.package.specs.Items.{itemOf, ReadsItem, Takes};
+ghost use Rattle.package.specs.Items.{ReadsItem, ReadsProcedure, Takes, itemOf};
 use super::refusal::Refusal;
 use commands::number16;
 use commands::number32;
@@ -47,24 +47,38 @@ pub(crate) enum Next<'a> {
     Finished,
 }
 
+fn table<'a>(first: u8, length: u8) -> Declaration<'a>
+    ensures { λ r. ⌜ itemOf r ≡ simple (TABLE (record { first = first; length = «length» })) ⌝ }
+{
+    Declaration::Table(Table { first, length })
+}
+
+// A procedure, whose body has this length; none where the bytes are cut short.
+fn procedure<'a>(party: u8, length: u16, rest: &'a [u8]) -> Option<(Declaration<'a>, &'a [u8])>
+    ensures { λ r. ⌜ ReadsProcedure party «length» (now (rest .entry)) r ⌝ }
+{
+    let length = usize::from(length);
+    if length > rest.len() {
+        return None;
+    }
+    let (body, rest) = rest.split_at(length);
+    Some((Declaration::Procedure { party, body }, rest))
+}
+
 // The declaration of these bytes, which a declaration's byte leads, and the bytes behind it; none where they are cut short.
 fn decode_declaration<'a>(bytes: &'a [u8]) -> Option<(Declaration<'a>, &'a [u8])>
     ensures { λ r. ⌜ (0x81 ≤ getD (now (bytes .entry)) 0 0 → getD (now (bytes .entry)) 0 0 ≤ 0x87 → ReadsItem (now (bytes .entry)) r) ⌝ }
 {
     match bytes {
-        [0x81, g7, g6, g5, g4, g3, g2, g1, g0, rest @ ..] => Some((
-            Declaration::Party {
-                frame: number64(*g7, *g6, *g5, *g4, *g3, *g2, *g1, *g0),
-            },
-            rest,
-        )),
-        [0x82, p, v3, v2, v1, v0, rest @ ..] => Some((
-            Declaration::Input(Input {
-                party: *p,
-                value: number32(*v3, *v2, *v1, *v0),
-            }),
-            rest,
-        )),
+        [0x81, g7, g6, g5, g4, g3, g2, g1, g0, rest @ ..] => {
+            let frame = number64(*g7, *g6, *g5, *g4, *g3, *g2, *g1, *g0);
+            Some((Declaration::Party { frame }, rest))
+        }
+        [0x82, p, v3, v2, v1, v0, rest @ ..] => {
+            let value = number32(*v3, *v2, *v1, *v0);
+            let input = Input { party: *p, value };
+            Some((Declaration::Input(input), rest))
+        }
         [
             0x83,
             v3,
@@ -85,27 +99,12 @@ fn decode_declaration<'a>(bytes: &'a [u8]) -> Option<(Declaration<'a>, &'a [u8])
             let frame = number64(*g7, *g6, *g5, *g4, *g3, *g2, *g1, *g0);
             Some((Declaration::Cell(Cell { value, frame }), rest))
         }
-        [0x84, first, length, rest @ ..] => Some((
-            Declaration::Table(Table {
-                first: *first,
-                length: *length,
-            }),
-            rest,
-        )),
-        [0x85, g7, g6, g5, g4, g3, g2, g1, g0, rest @ ..] => Some((
-            Declaration::Device {
-                need: number64(*g7, *g6, *g5, *g4, *g3, *g2, *g1, *g0),
-            },
-            rest,
-        )),
-        [0x86, p, l1, l0, rest @ ..] => {
-            let length = usize::from(number16(*l1, *l0));
-            if length > rest.len() {
-                return None;
-            }
-            let (body, rest) = rest.split_at(length);
-            Some((Declaration::Procedure { party: *p, body }, rest))
+        [0x84, first, length, rest @ ..] => Some((table(*first, *length), rest)),
+        [0x85, g7, g6, g5, g4, g3, g2, g1, g0, rest @ ..] => {
+            let need = number64(*g7, *g6, *g5, *g4, *g3, *g2, *g1, *g0);
+            Some((Declaration::Device { need }, rest))
         }
+        [0x86, p, l1, l0, rest @ ..] => procedure(*p, number16(*l1, *l0), rest),
         [0x87, p, rest @ ..] => Some((Declaration::Entry { procedure: *p }, rest)),
         _ => None,
     }

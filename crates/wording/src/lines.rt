@@ -1,6 +1,10 @@
 // The text of a listing's lines.
 use commands::Operation;
 use commands::Plain;
+use layout::Cell;
+use layout::Input;
+use layout::Procedure;
+use layout::Table;
 use listing::lines::Action;
 use listing::lines::Line;
 use listing::lines::Role;
@@ -73,26 +77,21 @@ fn sign(operation: Operation) -> &'static str {
     }
 }
 
+// A numbered place of a body: first its inputs, then its own.
+fn numbered(number: u8, inputs: usize) -> Place {
+    Place { number, inputs }
+}
+
 impl fmt::Display for Told as ToldDisplay {
     fn fmt<W: fmt::Write>(&self, f: &mut fmt::Formatter<W>) -> fmt::Result {
         let inputs = self.inputs;
         match self.plain {
             Plain::Set { target, value } => {
-                let to = Place {
-                    number: target,
-                    inputs,
-                };
+                let to = numbered(target, inputs);
                 write!(f, "SET {to} to {value}")
             }
             Plain::Copy { target, source } => {
-                let to = Place {
-                    number: target,
-                    inputs,
-                };
-                let from = Place {
-                    number: source,
-                    inputs,
-                };
+                let (to, from) = (numbered(target, inputs), numbered(source, inputs));
                 write!(f, "COPY {from} to {to}")
             }
             Plain::Combine {
@@ -101,20 +100,8 @@ impl fmt::Display for Told as ToldDisplay {
                 left,
                 right,
             } => {
-                let name = name(operation);
-                let sign = sign(operation);
-                let to = Place {
-                    number: target,
-                    inputs,
-                };
-                let one = Place {
-                    number: left,
-                    inputs,
-                };
-                let other = Place {
-                    number: right,
-                    inputs,
-                };
+                let (one, other) = (numbered(left, inputs), numbered(right, inputs));
+                let (name, sign, to) = (name(operation), sign(operation), numbered(target, inputs));
                 write!(f, "{name} {one} {sign} {other} to {to}")
             }
             Plain::Pick {
@@ -122,14 +109,7 @@ impl fmt::Display for Told as ToldDisplay {
                 table,
                 index,
             } => {
-                let to = Place {
-                    number: target,
-                    inputs,
-                };
-                let at = Place {
-                    number: index,
-                    inputs,
-                };
+                let (to, at) = (numbered(target, inputs), numbered(index, inputs));
                 write!(f, "PICK from table {table} at {at} to {to}")
             }
             Plain::Put {
@@ -137,21 +117,11 @@ impl fmt::Display for Told as ToldDisplay {
                 index,
                 source,
             } => {
-                let at = Place {
-                    number: index,
-                    inputs,
-                };
-                let from = Place {
-                    number: source,
-                    inputs,
-                };
+                let (at, from) = (numbered(index, inputs), numbered(source, inputs));
                 write!(f, "PUT {from} into table {table} at {at}")
             }
             Plain::Drive { device, source } => {
-                let from = Place {
-                    number: source,
-                    inputs,
-                };
+                let from = numbered(source, inputs);
                 write!(f, "DRIVE device {device} with {from}")
             }
         }
@@ -214,6 +184,81 @@ impl fmt::Display for Indent as IndentDisplay {
     }
 }
 
+fn write_heading<W: fmt::Write>(
+    f: &mut fmt::Formatter<W>,
+    sort: Sort,
+    count: usize,
+) -> fmt::Result {
+    let name = sort_name(sort);
+    write!(f, "{name}: {count}")
+}
+
+fn write_input<W: fmt::Write>(
+    f: &mut fmt::Formatter<W>,
+    number: usize,
+    input: Input,
+) -> fmt::Result {
+    let (party, value) = (input.party, input.value);
+    write!(
+        f,
+        "  input     {number:>3}  party {party:>3}  value {value:>10}"
+    )
+}
+
+fn write_cell<W: fmt::Write>(f: &mut fmt::Formatter<W>, number: usize, cell: Cell) -> fmt::Result {
+    let (value, frame) = (cell.value, cell.frame);
+    write!(
+        f,
+        "  cell      {number:>3}             value {value:>10}  frame {frame:016x}"
+    )
+}
+
+fn write_table<W: fmt::Write>(
+    f: &mut fmt::Formatter<W>,
+    number: usize,
+    table: Table,
+) -> fmt::Result {
+    let (first, length) = (table.first, table.length);
+    write!(
+        f,
+        "  table     {number:>3}  from cell {first:>3}  length {length:>3}"
+    )
+}
+
+fn write_procedure<W: fmt::Write>(
+    f: &mut fmt::Formatter<W>,
+    number: usize,
+    procedure: Procedure,
+) -> fmt::Result {
+    let (party, start, length) = (procedure.party, procedure.start, procedure.length);
+    let (height, steps) = (procedure.height, procedure.steps);
+    write!(
+        f,
+        "  procedure {number:>3}  party {party:>3}  body at {start:>4}, {length:>4} bytes"
+    )?;
+    write!(f, "  height {height}  at most {steps} steps")
+}
+
+fn write_block<W: fmt::Write>(
+    f: &mut fmt::Formatter<W>,
+    number: usize,
+    depth: usize,
+    role: Role,
+) -> fmt::Result {
+    let (indent, when) = (Indent(depth), role_name(role));
+    write!(f, "          {indent}block {number}, {when}")
+}
+
+fn write_command<W: fmt::Write>(
+    f: &mut fmt::Formatter<W>,
+    offset: usize,
+    depth: usize,
+    done: Done,
+) -> fmt::Result {
+    let indent = Indent(depth);
+    write!(f, "    {offset:>4}    {indent}{done}")
+}
+
 // The text of a line.
 #[derive(Clone, Copy)]
 pub struct LineText(pub Line);
@@ -221,72 +266,30 @@ pub struct LineText(pub Line);
 pub impl fmt::Display for LineText as LineTextDisplay {
     fn fmt<W: fmt::Write>(&self, f: &mut fmt::Formatter<W>) -> fmt::Result {
         match self.0 {
-            Line::Heading { sort, count } => {
-                let name = sort_name(sort);
-                write!(f, "{name}: {count}")
-            }
+            Line::Heading { sort, count } => write_heading(f, sort, count),
             Line::Party { number, frame } => write!(
                 f,
                 "  party     {number:>3}  frame {frame:016x}"
             ),
-            Line::Input { number, input } => {
-                let party = input.party;
-                let value = input.value;
-                write!(
-                    f,
-                    "  input     {number:>3}  party {party:>3}  value {value:>10}"
-                )
-            }
-            Line::Cell { number, cell } => {
-                let value = cell.value;
-                let frame = cell.frame;
-                write!(
-                    f,
-                    "  cell      {number:>3}             value {value:>10}  frame {frame:016x}"
-                )
-            }
-            Line::Table { number, table } => {
-                let first = table.first;
-                let length = table.length;
-                write!(
-                    f,
-                    "  table     {number:>3}  from cell {first:>3}  length {length:>3}"
-                )
-            }
+            Line::Input { number, input } => write_input(f, number, input),
+            Line::Cell { number, cell } => write_cell(f, number, cell),
+            Line::Table { number, table } => write_table(f, number, table),
             Line::Device { number, need } => write!(
                 f,
                 "  device    {number:>3}  need  {need:016x}"
             ),
-            Line::Procedure { number, procedure } => {
-                let party = procedure.party;
-                let start = procedure.start;
-                let length = procedure.length;
-                let height = procedure.height;
-                let steps = procedure.steps;
-                write!(
-                    f,
-                    "  procedure {number:>3}  party {party:>3}  body at {start:>4}, {length:>4} bytes  height {height}  at most {steps} steps"
-                )
-            }
+            Line::Procedure { number, procedure } => write_procedure(f, number, procedure),
             Line::Block {
                 number,
                 depth,
                 role,
-            } => {
-                let indent = Indent(depth);
-                let when = role_name(role);
-                write!(f, "          {indent}block {number}, {when}")
-            }
+            } => write_block(f, number, depth, role),
             Line::Command {
                 offset,
                 depth,
                 inputs,
                 action,
-            } => {
-                let indent = Indent(depth);
-                let done = Done { action, inputs };
-                write!(f, "    {offset:>4}    {indent}{done}")
-            }
+            } => { write_command(f, offset, depth, Done { action, inputs }) }
             Line::Entry { number, procedure } => write!(
                 f,
                 "  entry     {number:>3}  procedure {procedure:>3}"

@@ -214,7 +214,7 @@ step-returns-in-Continue-turn t c =
     record {
       back = c .block .ensures .back;
       few = c .block .ensures .few;
-      walks = carry-walks _ _ _ _ _ _ _ _ (Ok _) e (walked-loop _ _ _ _ _ _ _ _ (k .0) (omega (arith, c .args .blocks .now .ok .0)) _ _ _ (c .in-Continue-turn .ensures tt .walks) (let x = c .saturating-add .ensures in let y = c .saturating-mul .ensures in let z = c .saturating-add-in-Loop .ensures in let w = c .from .ensures in cc) refl);
+      walks = carry-walks _ _ _ _ _ _ _ _ (Ok _) e (walked-loop _ _ _ _ _ _ _ _ (k .0) (omega (arith, c .args .blocks .now .ok .0)) _ _ _ (c .in-Continue-turn .ensures tt .walks) (c .repeated .ensures .0) (c .repeated .ensures .1));
     }
 
 pub step-returns-in-Continue-under : need.step-returns-in-Continue-under
@@ -224,7 +224,7 @@ step-returns-in-Continue-under t c =
     record {
       back = c .block-in-Grant .ensures .back;
       few = c .block-in-Grant .ensures .few;
-      walks = carry-walks _ _ _ _ _ _ _ _ (Ok _) e (walked-grant _ _ _ _ _ _ _ (k .0) (omega (arith, c .args .blocks .now .ok .0)) _ _ _ (c .in-Continue-under .ensures tt .walks) (c .saturating-add-in-Grant .ensures) refl);
+      walks = carry-walks _ _ _ _ _ _ _ _ (Ok _) e (walked-grant _ _ _ _ _ _ _ (k .0) (omega (arith, c .args .blocks .now .ok .0)) _ _ _ (c .in-Continue-under .ensures tt .walks) (c .granted .ensures .0) (c .granted .ensures .1));
     }
 
 pub step-returns-in-Call : need.step-returns-in-Call
