@@ -77,7 +77,7 @@ fn sign(operation: Operation) -> &'static str {
     }
 }
 
-// A numbered place of a body: first its inputs, then its own.
+// A place, from its number in the row of places.
 fn numbered(number: u8, inputs: usize) -> Place {
     Place { number, inputs }
 }

@@ -1,0 +1,4 @@
+pub mod Gaps
+pub mod LevelGaps
+pub mod Bits
+pub mod RightGaps
