@@ -41,13 +41,16 @@ fn read(heap: Global, bytes: &[u8]) -> Result<Contents, Refusal>
     }
 }
 
+// No package has more bytes.
+const LONGEST: usize = 8192;
+
 // Loads any bytes whatever: the package that they are, or why they are refused and at which offset.
 pub fn load(heap: Global, bytes: &[u8]) -> Result<Package, Refusal>
     ensures reads { λ r. ⌜ Loads (now (bytes .entry)) r ⌝ }
     ensures exactly { λ r. ⌜ Exactly (now (bytes .entry)) r ⌝ }
     ensures lawful { λ r. ⌜ Keeping r ⌝ }
 {
-    if bytes.len() > 8192 {
+    if bytes.len() > LONGEST {
         return Err(Refusal::TooLong(0));
     }
     let contents = read(heap, bytes)?;
