@@ -21,5 +21,5 @@ pub returns-in-11-to-15 : goal.returns-in-11-to-15
 returns-in-11-to-15 c =
     short_block c.args.bytes.now (search rules) (search rules) (search rules) (λ e. search rules) (λ e. search rules) (λ e. search rules) (λ e. search rules) (λ e. search rules)
 
-pub returns-in-default : goal.returns-in-default
-returns-in-default c = c.decode-plain.ensures (λ a b. let h = some_byte c.args.bytes.now (omega arith) in search rules)
+pub returns-in_default : goal.returns-in_default
+returns-in_default c = c.decode_plain.ensures (λ a b. let h = some_byte c.args.bytes.now (omega arith) in search rules)

@@ -3,4 +3,4 @@ use Rattle.listing.proofs.listing.Goals as goal
 
 pub returns : goal.returns
 returns c =
-    listed_joined c.args.held.now c.contents-contents.result.now _ _ _ _ _ _ _ _ _ _ _ _ c.contents-contents.ensures c.new-lines.ensures.items c.deref.ensures.value c.in-ok-list-sort.ensures c.in-ok-list-places.ensures c.deref-2.ensures.value c.in-ok-list-sort-2.ensures c.deref-3.ensures.value c.in-ok-list-sort-3.ensures c.in-ok-list-bodies.ensures c.deref-4.ensures.value c.in-ok-list-sort-4.ensures c.in-ok-push.ensures.items
+    listed_joined c.args.held.now c.contents-contents.result.now _ _ _ _ _ _ _ _ _ _ _ _ c.contents-contents.ensures c.new-lines.ensures.items c.deref.ensures.value c.in_ok-list_sort.ensures c.in_ok-list_places.ensures c.deref-2.ensures.value c.in_ok-list_sort-2.ensures c.deref-3.ensures.value c.in_ok-list_sort-3.ensures c.in_ok-list_bodies.ensures c.deref-4.ensures.value c.in_ok-list_sort-4.ensures c.in_ok-push.ensures.items

@@ -6,41 +6,41 @@ use Rattle.package.proofs.Goes.{off, going_start, going_refused, going_end, goin
 use Rattle.package.proofs.read.Goals as goal
 
 pub loop-contents-init : goal.loop-contents-init
-loop-contents-init c = (search rules, going_start _ _ _ (omega arith) c.new-contents.ensures c.type-inv.bytes)
+loop-contents-init c = (search rules, going_start _ _ _ (omega arith) c.new-contents.ensures c.type_inv.bytes)
 
-pub returns-in-err-take : goal.returns-in-err-take
-returns-in-err-take c =
-    let p = err_from_is_err_and c.from-residual.result c.from-residual.ensures.1 in
-    rw (p.1, p.2) (going_refused c.loop-contents.invariant.1 _ c.in-err-take.ensures)
+pub returns-in_err-take : goal.returns-in_err-take
+returns-in_err-take c =
+    let p = err_from_is_err_and c.from_residual.result c.from_residual.ensures.1 in
+    rw (p.1, p.2) (going_refused c.loop-contents.invariant.1 _ c.in_err-take.ensures)
 
 pub returns-in-Finished : goal.returns-in-Finished
 returns-in-Finished c =
-    let t = subst (λ (n : Next). TakesNext c.loop-contents.rest.now (length c.args.bytes.now - length c.loop-contents.rest.now) c.loop-contents.latest n) c.in-Finished.is c.in-ok-take.ensures in
+    let t = subst (λ (n : Next). TakesNext c.loop-contents.rest.now (length c.args.bytes.now - length c.loop-contents.rest.now) c.loop-contents.latest n) c.in-Finished.is c.in_ok-take.ensures in
     let e = going_end c.loop-contents.invariant.1 t in
     record { all = c.loop-contents.invariant.1.pre; reads = e.0; holds = e.1 }
 
 pub declare-requires : goal.declare-requires
 declare-requires c =
-    let t = subst (λ (n : Next). TakesNext c.loop-contents.rest.now (length c.args.bytes.now - length c.loop-contents.rest.now) c.loop-contents.latest n) c.in-Declared.is c.in-ok-take.ensures in
+    let t = subst (λ (n : Next). TakesNext c.loop-contents.rest.now (length c.args.bytes.now - length c.loop-contents.rest.now) c.loop-contents.latest n) c.in-Declared.is c.in_ok-take.ensures in
     let l = off c.loop-contents.invariant.1 t in
     omega (arith, c.loop-contents.invariant.0)
 
-pub returns-in-err-declare : goal.returns-in-err-declare
-returns-in-err-declare c =
-    let t = subst (λ (n : Next). TakesNext c.loop-contents.rest.now (length c.args.bytes.now - length c.loop-contents.rest.now) c.loop-contents.latest n) c.in-Declared.is c.in-ok-take.ensures in
-    let p = err_from_is_err_and c.from-residual-in-err-declare.result c.from-residual-in-err-declare.ensures.1 in
-    rw (p.1, p.2) (going_stops c.loop-contents.invariant.1 t _ c.in-err-declare.ensures)
+pub returns-in_err-declare-in-Declared : goal.returns-in_err-declare-in-Declared
+returns-in_err-declare-in-Declared c =
+    let t = subst (λ (n : Next). TakesNext c.loop-contents.rest.now (length c.args.bytes.now - length c.loop-contents.rest.now) c.loop-contents.latest n) c.in-Declared.is c.in_ok-take.ensures in
+    let p = err_from_is_err_and c.from_residual-in_err-declare-in-Declared.result c.from_residual-in_err-declare-in-Declared.ensures.1 in
+    rw (p.1, p.2) (going_stops c.loop-contents.invariant.1 t _ c.in_err-declare-in-Declared.ensures)
 
 pub loop-contents-smaller : goal.loop-contents-smaller
 loop-contents-smaller c =
-    let t = subst (λ (n : Next). TakesNext c.loop-contents.rest.now (length c.args.bytes.now - length c.loop-contents.rest.now) c.loop-contents.latest n) c.in-Declared.is c.in-ok-take.ensures in
+    let t = subst (λ (n : Next). TakesNext c.loop-contents.rest.now (length c.args.bytes.now - length c.loop-contents.rest.now) c.loop-contents.latest n) c.in-Declared.is c.in_ok-take.ensures in
     let l = off c.loop-contents.invariant.1 t in
     omega arith
 
 pub loop-contents-preserved : goal.loop-contents-preserved
 loop-contents-preserved c =
-    let t = subst (λ (n : Next). TakesNext c.loop-contents.rest.now (length c.args.bytes.now - length c.loop-contents.rest.now) c.loop-contents.latest n) c.in-Declared.is c.in-ok-take.ensures in
+    let t = subst (λ (n : Next). TakesNext c.loop-contents.rest.now (length c.args.bytes.now - length c.loop-contents.rest.now) c.loop-contents.latest n) c.in-Declared.is c.in_ok-take.ensures in
     let l = off c.loop-contents.invariant.1 t in (
       omega (arith, c.loop-contents.invariant.0),
-      going_on c.loop-contents.invariant.1 t _ _ _ (omega (arith, c.loop-contents.invariant.0)) c.lead-of-latest.ensures c.in-ok-declare.ensures,
+      going_on c.loop-contents.invariant.1 t _ _ _ (omega (arith, c.loop-contents.invariant.0)) c.lead_of-latest.ensures c.in_ok-declare-in-Declared.ensures,
     )

@@ -9,61 +9,61 @@ use Rattle.listing.specs.declared.lines.Line.TheVariants as line
 use Rattle.listing.proofs.Tells.{telling_start, telling_end, telling_on, off_bytes, block_tells, two_tell, plain_tells, call_tells, loop_tells, grant_tells, choice_tells}
 use Rattle.listing.proofs.bodies.+list_block_list_choice_list_command_list_commands.Goals as goal
 
-pub list-block-returns : goal.list-block-returns
-list-block-returns t c = IfOk-weaker c.list-commands.result _ _ (λ next h. block_tells _ _ _ _ _ _ next _ _ _ _ c.saturating-add.ensures c.in-ok-push.ensures.items h) c.list-commands.ensures
+pub list_block-returns : goal.list_block-returns
+list_block-returns t c = IfOk-weaker c.list_commands.result _ _ (λ next h. block_tells _ _ _ _ _ _ next _ _ _ _ c.saturating_add.ensures c.in_ok-push.ensures.items h) c.list_commands.ensures
 
-pub list-choice-returns : goal.list-choice-returns
-list-choice-returns t c = IfOk-weaker c.list-block-2.result _ _ (λ next h. two_tell _ _ _ _ _ _ _ _ next _ _ _ c.saturating-add.ensures c.in-ok-between.ensures h) c.list-block-2.ensures
+pub list_choice-returns : goal.list_choice-returns
+list_choice-returns t c = IfOk-weaker c.list_block-2.result _ _ (λ next h. two_tell _ _ _ _ _ _ _ _ next _ _ _ c.saturating_add.ensures c.in_ok-between.ensures h) c.list_block-2.ensures
 
-pub list-command-list-choice-requires : goal.list-command-list-choice-requires
-list-command-list-choice-requires t c =
+pub list_command-list_choice-requires : goal.list_command-list_choice-requires
+list_command-list_choice-requires t c =
     let l : length (command_bytes (flat_of c.args.command)) ≡ _ = ap (λ (x : Flat). length (command_bytes x)) (ap flat_of c.in-When.is) in
     let n = length-append c.in-When.first.now c.in-When.second.now in
     (omega (arith, c.decreases), tt)
 
-pub list-command-list-choice-requires-in-Try : goal.list-command-list-choice-requires-in-Try
-list-command-list-choice-requires-in-Try t c =
+pub list_command-list_choice-requires-in-Try : goal.list_command-list_choice-requires-in-Try
+list_command-list_choice-requires-in-Try t c =
     let l : length (command_bytes (flat_of c.args.command)) ≡ _ = ap (λ (x : Flat). length (command_bytes x)) (ap flat_of c.in-Try.is) in
     let n = length-append c.in-Try.first.now c.in-Try.second.now in
     (omega (arith, c.decreases), tt)
 
-pub list-command-returns-in-Plain : goal.list-command-returns-in-Plain
-list-command-returns-in-Plain t c = plain_tells _ _ _ _ _ _ _ (c.in-ok-push.ensures.items ∙ ap (λ (x : Action). vec_items c.args.lines.now ++ (line.Command c.args.at c.args.margin.depth c.args.margin.inputs x ∷ [])) c.action.ensures) _ (ap flat_of c.in-Plain.is)
+pub list_command-returns-in-Plain : goal.list_command-returns-in-Plain
+list_command-returns-in-Plain t c = plain_tells _ _ _ _ _ _ _ (c.in_ok-push.ensures.items ∙ ap (λ (x : Action). vec_items c.args.lines.now ++ (line.Command c.args.at c.args.margin.depth c.args.margin.inputs x ∷ [])) c.action.ensures) _ (ap flat_of c.in-Plain.is)
 
-pub list-command-returns-in-When : goal.list-command-returns-in-When
-list-command-returns-in-When t c = IfOk-weaker c.list-choice.result _ _ (λ next h. choice_tells _ _ _ _ _ _ _ (c.in-ok-push.ensures.items ∙ ap (λ (x : Action). vec_items c.args.lines.now ++ (line.Command c.args.at c.args.margin.depth c.args.margin.inputs x ∷ [])) c.action.ensures) next _ _ _ c.saturating-add.ensures (when_place _) _ _ (ap flat_of c.in-When.is) c.saturating-add-in-When.ensures h) c.list-choice.ensures
+pub list_command-returns-in-When : goal.list_command-returns-in-When
+list_command-returns-in-When t c = IfOk-weaker c.list_choice.result _ _ (λ next h. choice_tells _ _ _ _ _ _ _ (c.in_ok-push.ensures.items ∙ ap (λ (x : Action). vec_items c.args.lines.now ++ (line.Command c.args.at c.args.margin.depth c.args.margin.inputs x ∷ [])) c.action.ensures) next _ _ _ c.saturating_add.ensures (when_place _) _ _ (ap flat_of c.in-When.is) c.saturating_add-in-When.ensures h) c.list_choice.ensures
 
-pub list-command-returns-in-Loop : goal.list-command-returns-in-Loop
-list-command-returns-in-Loop t c = IfOk-weaker c.list-block.result _ _ (λ next h. loop_tells _ _ _ _ _ _ _ (c.in-ok-push.ensures.items ∙ ap (λ (x : Action). vec_items c.args.lines.now ++ (line.Command c.args.at c.args.margin.depth c.args.margin.inputs x ∷ [])) c.action.ensures) next _ _ _ c.saturating-add.ensures _ _ _ (ap flat_of c.in-Loop.is) c.saturating-add-in-Loop.ensures h) c.list-block.ensures
+pub list_command-returns-in-Loop : goal.list_command-returns-in-Loop
+list_command-returns-in-Loop t c = IfOk-weaker c.list_block.result _ _ (λ next h. loop_tells _ _ _ _ _ _ _ (c.in_ok-push.ensures.items ∙ ap (λ (x : Action). vec_items c.args.lines.now ++ (line.Command c.args.at c.args.margin.depth c.args.margin.inputs x ∷ [])) c.action.ensures) next _ _ _ c.saturating_add.ensures _ _ _ (ap flat_of c.in-Loop.is) c.saturating_add-in-Loop.ensures h) c.list_block.ensures
 
-pub list-command-returns-in-Grant : goal.list-command-returns-in-Grant
-list-command-returns-in-Grant t c = IfOk-weaker c.list-block-in-Grant.result _ _ (λ next h. grant_tells _ _ _ _ _ _ _ (c.in-ok-push.ensures.items ∙ ap (λ (x : Action). vec_items c.args.lines.now ++ (line.Command c.args.at c.args.margin.depth c.args.margin.inputs x ∷ [])) c.action.ensures) next _ _ _ c.saturating-add.ensures _ _ (ap flat_of c.in-Grant.is) c.saturating-add-in-Grant.ensures h) c.list-block-in-Grant.ensures
+pub list_command-returns-in-Grant : goal.list_command-returns-in-Grant
+list_command-returns-in-Grant t c = IfOk-weaker c.list_block-in-Grant.result _ _ (λ next h. grant_tells _ _ _ _ _ _ _ (c.in_ok-push.ensures.items ∙ ap (λ (x : Action). vec_items c.args.lines.now ++ (line.Command c.args.at c.args.margin.depth c.args.margin.inputs x ∷ [])) c.action.ensures) next _ _ _ c.saturating_add.ensures _ _ (ap flat_of c.in-Grant.is) c.saturating_add-in-Grant.ensures h) c.list_block-in-Grant.ensures
 
-pub list-command-returns-in-Call : goal.list-command-returns-in-Call
-list-command-returns-in-Call t c = call_tells _ _ _ _ _ _ _ (c.in-ok-push.ensures.items ∙ ap (λ (x : Action). vec_items c.args.lines.now ++ (line.Command c.args.at c.args.margin.depth c.args.margin.inputs x ∷ [])) c.action.ensures) _ (ap flat_of c.in-Call.is)
+pub list_command-returns-in-Call : goal.list_command-returns-in-Call
+list_command-returns-in-Call t c = call_tells _ _ _ _ _ _ _ (c.in_ok-push.ensures.items ∙ ap (λ (x : Action). vec_items c.args.lines.now ++ (line.Command c.args.at c.args.margin.depth c.args.margin.inputs x ∷ [])) c.action.ensures) _ (ap flat_of c.in-Call.is)
 
-pub list-command-returns-in-Try : goal.list-command-returns-in-Try
-list-command-returns-in-Try t c = IfOk-weaker c.list-choice-in-Try.result _ _ (λ next h. choice_tells _ _ _ _ _ _ _ (c.in-ok-push.ensures.items ∙ ap (λ (x : Action). vec_items c.args.lines.now ++ (line.Command c.args.at c.args.margin.depth c.args.margin.inputs x ∷ [])) c.action.ensures) next _ _ _ c.saturating-add.ensures (try_frame _ _) _ _ (ap flat_of c.in-Try.is) c.saturating-add-in-Try.ensures h) c.list-choice-in-Try.ensures
+pub list_command-returns-in-Try : goal.list_command-returns-in-Try
+list_command-returns-in-Try t c = IfOk-weaker c.list_choice-in-Try.result _ _ (λ next h. choice_tells _ _ _ _ _ _ _ (c.in_ok-push.ensures.items ∙ ap (λ (x : Action). vec_items c.args.lines.now ++ (line.Command c.args.at c.args.margin.depth c.args.margin.inputs x ∷ [])) c.action.ensures) next _ _ _ c.saturating_add.ensures (try_frame _ _) _ _ (ap flat_of c.in-Try.is) c.saturating_add-in-Try.ensures h) c.list_choice-in-Try.ensures
 
-pub list-commands-loop-command-init : goal.list-commands-loop-command-init
-list-commands-loop-command-init t c = (search rules, telling_start _ _ _ _ _ _ c.type-inv.bytes)
+pub list_commands-loop-command-init : goal.list_commands-loop-command-init
+list_commands-loop-command-init t c = (search rules, telling_start _ _ _ _ _ _ c.type_inv.bytes)
 
-pub list-commands-list-command-requires : goal.list-commands-list-command-requires
-list-commands-list-command-requires t c =
+pub list_commands-list_command-requires : goal.list_commands-list_command-requires
+list_commands-list_command-requires t c =
     let l = off_bytes c.loop-command.invariant.1 c.in-Ok.ensures in
     (omega (arith, c.decreases, c.loop-command.invariant.0), tt)
 
-pub list-commands-loop-command-smaller : goal.list-commands-loop-command-smaller
-list-commands-loop-command-smaller t c =
+pub list_commands-loop-command-smaller : goal.list_commands-loop-command-smaller
+list_commands-loop-command-smaller t c =
     let l = off_bytes c.loop-command.invariant.1 c.in-Ok.ensures in
     omega arith
 
-pub list-commands-loop-command-preserved : goal.list-commands-loop-command-preserved
-list-commands-loop-command-preserved t c =
+pub list_commands-loop-command-preserved : goal.list_commands-loop-command-preserved
+list_commands-loop-command-preserved t c =
     let l = off_bytes c.loop-command.invariant.1 c.in-Ok.ensures in (
       omega (arith, c.loop-command.invariant.0),
-      telling_on c.loop-command.invariant.1 c.in-Ok.ensures _ _ _ (omega (arith, c.saturating-add-offset.ensures, c.saturating-sub.ensures)) c.in-ok-next.ensures,
+      telling_on c.loop-command.invariant.1 c.in-Ok.ensures _ _ _ (omega (arith, c.saturating_add-offset.ensures, c.saturating_sub.ensures)) c.in_ok-next.ensures,
     )
 
-pub list-commands-returns : goal.list-commands-returns
-list-commands-returns t c = telling_end c.loop-command.invariant.1 _ c.in-default.ensures
+pub list_commands-returns : goal.list_commands-returns
+list_commands-returns t c = telling_end c.loop-command.invariant.1 _ c.in_default.ensures

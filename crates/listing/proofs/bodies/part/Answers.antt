@@ -9,5 +9,5 @@ returns-then-start-bytes c =
 
 pub returns-then-count-tail : goal.returns-then-count-tail
 returns-then-count-tail c =
-    let e = c.split-at.ensures.back in
+    let e = c.split_at.ensures.back in
     e ∙ sym (take_all c.args.count (drop c.args.start c.args.bytes.now) (omega (arith, ap length e)))

@@ -11,8 +11,8 @@ pub loop-item-preserved : goal.loop-item-preserved
 loop-item-preserved g c fits =
     let i = c.loop-item.invariant fits in
     let n = i.0 in (
-      omega (arith, c.saturating-add-number.ensures, c.loop-item-test.true),
-      numbered_more g.R.Rows.row _ _ _ _ _ _ _ _ c.loop-item-test.true c.item-item.is n i.1 (c.in-ok-push.ensures.items ∙ ap (λ (x : Line). vec_items c.loop-item.lines ++ (x ∷ [])) c.line.ensures),
+      omega (arith, c.saturating_add-number.ensures, c.loop-item-test.true),
+      numbered_more g.R.Rows.row _ _ _ _ _ _ _ _ c.loop-item-test.true c.item-item.is n i.1 (c.in_ok-push.ensures.items ∙ ap (λ (x : Line). vec_items c.loop-item.lines ++ (x ∷ [])) c.line.ensures),
     )
 
 pub returns : goal.returns

@@ -11,8 +11,8 @@ loop-procedure-init c = (refl, sym (append-nil _))
 pub loop-procedure-preserved : goal.loop-procedure-preserved
 loop-procedure-preserved c =
     let i = c.loop-procedure.invariant in (
-      omega (arith, c.saturating-add-number.ensures, c.loop-procedure-test.true),
-      numbered_more (λ n p. step.Checked n p) _ _ _ _ _ _ _ _ c.loop-procedure-test.true (get_or_default _ _ _ _ c.loop-procedure-test.true) (omega arith) i.1 c.in-ok-push.ensures.items,
+      omega (arith, c.saturating_add-number.ensures, c.loop-procedure-test.true),
+      numbered_more (λ n p. step.Checked n p) _ _ _ _ _ _ _ _ c.loop-procedure-test.true (get_or_default _ _ _ _ c.loop-procedure-test.true) (omega arith) i.1 c.in_ok-push.ensures.items,
     )
 
 pub returns : goal.returns

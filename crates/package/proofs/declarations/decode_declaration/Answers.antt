@@ -25,7 +25,7 @@ returns-in-134 c least top = item_as c.args.bytes.now _ _ (at_lead c.args.bytes.
 pub returns-in-135 : goal.returns-in-135
 returns-in-135 c least top = at_lead c.args.bytes.now 135 (search rules) ∙ grind (arith, nat_tests, rest_all 2 c.args.bytes.now)
 
-pub returns-in-default : goal.returns-in-default
-returns-in-default c least top =
+pub returns-in_default : goal.returns-in_default
+returns-in_default c least top =
     let h = some_byte c.args.bytes.now (omega arith) in
     short_item c.args.bytes.now least top (λ e. search rules) (λ e. search rules) (λ e. search rules) (λ e. search rules) (λ e. search rules) (λ e. search rules) (λ e. search rules)

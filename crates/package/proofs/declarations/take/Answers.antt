@@ -24,7 +24,7 @@ returns-in-Some c =
     let least = leads_least (get_or c.args.bytes.now 0 0) l in
     let most = leads_most (get_or c.args.bytes.now 0 0) l in
     let other : get_or c.args.bytes.now 0 0 < 0x88 = search rules in
-    fronted c.args.bytes.now _ _ _ _ (search rules) l c.if-lead-latest.false other c.type-inv.bytes (c.in-Some.ensures least (omega arith))
+    fronted c.args.bytes.now _ _ _ _ (search rules) l c.if-lead-latest.false other c.type_inv.bytes (c.in-Some.ensures least (omega arith))
 
 pub returns-in-None : goal.returns-in-None
 returns-in-None c f s =

@@ -12,12 +12,12 @@ returns-then-steps-gt1000000 c =
     let known = ltb-true _ _ c.requires.names in
     let body = map_at (λ (p : Procedure). p.steps) (vec_items c.args.contents.now.procedures) _ _ _ c.from.ensures (omega (arith, c.from.ensures)) c.index.ensures in
     λ n. too_long (contents_of c.args.contents.now) (simple (entry_item c.args.procedure)) _ (simple_declaration (entry_item c.args.procedure)) c.requires refl
-    (entry_long (contents_of c.args.contents.now) c.args.procedure _ _ body (omega (arith, c.saturating-add.ensures, c.saturating-add-steps.ensures)) c.if-steps-gt1000000.true)
+    (entry_long (contents_of c.args.contents.now) c.args.procedure _ _ body (omega (arith, c.saturating_add.ensures, c.saturating_add-steps.ensures)) c.if-steps-gt1000000.true)
 
 pub returns : goal.returns
 returns c =
     let known = ltb-true _ _ c.requires.names in
     let body = map_at (λ (p : Procedure). p.steps) (vec_items c.args.contents.now.procedures) _ _ _ c.from.ensures (omega (arith, c.from.ensures)) c.index.ensures in
-    let b = entry_brief (contents_of c.args.contents.now) c.args.procedure _ _ body (omega (arith, c.saturating-add.ensures, c.saturating-add-steps.ensures)) c.if-steps-gt1000000.false in
+    let b = entry_brief (contents_of c.args.contents.now) c.args.procedure _ _ body (omega (arith, c.saturating_add.ensures, c.saturating_add-steps.ensures)) c.if-steps-gt1000000.false in
     by_added (contents_of c.args.contents.now) _ _ _ _ _ _ c.add.result c.add.ensures (λ e.
     simply (contents_of c.args.contents.now) _ (entry_item c.args.procedure) _ c.requires b.0 (entered (contents_of c.args.contents.now) c.args.procedure _ _ e b.1))

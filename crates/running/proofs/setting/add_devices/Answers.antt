@@ -7,7 +7,7 @@ pub loop-need-init : goal.loop-need-init
 loop-need-init c = made_none new_device (vec_items c.args.devices.now) c.args.needs.now
 
 pub loop-need-preserved : goal.loop-need-preserved
-loop-need-preserved c = made_more new_device (vec_items c.args.devices.now) c.args.needs.now _ 0 _ _ c.loop-need-test.true c.in-ok-push.ensures.items c.loop-need.invariant
+loop-need-preserved c = made_more new_device (vec_items c.args.devices.now) c.args.needs.now _ 0 _ _ c.loop-need-test.true c.in_ok-push.ensures.items c.loop-need.invariant
 
 pub returns : goal.returns
 returns c = made_all new_device (vec_items c.args.devices.now) c.args.needs.now _ _ c.loop-need-test.false c.loop-need.invariant

@@ -7,5 +7,5 @@ use Rattle.controller.proofs.controller.Controller.show.Goals as goal
 
 pub returns : goal.returns
 returns g c =
-    c.show-device.ensures
+    c.show_device.ensures
     ∙ by_tables (λ (P : Program). show_answer P (held_of c.args.self.now.work) c.args.device) c.args.self.now.held _ c.contents.ensures

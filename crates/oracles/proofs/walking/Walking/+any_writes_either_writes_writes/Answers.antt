@@ -6,30 +6,30 @@ use Rattle.oracles.proofs.Walks.{going_start, going_end, off_bytes, going_hit, g
 use Rattle.oracles.proofs.Held.{body_short}
 use Rattle.oracles.proofs.walking.Walking.+any_writes_either_writes_writes.Goals as goal
 
-pub any-writes-loop-command-init : goal.any-writes-loop-command-init
-any-writes-loop-command-init t c = going_start _ _ _ _ c.type-inv.bytes
+pub any_writes-loop-command-init : goal.any_writes-loop-command-init
+any_writes-loop-command-init t c = going_start _ _ _ _ c.type_inv.bytes
 
-pub any-writes-writes-requires : goal.any-writes-writes-requires
-any-writes-writes-requires t c =
+pub any_writes-writes-requires : goal.any_writes-writes-requires
+any_writes-writes-requires t c =
     let l = off_bytes c.loop-command.invariant c.in-Ok.ensures in
     (omega (arith, c.decreases, c.loop-command.invariant.short), tt)
 
-pub any-writes-returns-then-writes : goal.any-writes-returns-then-writes
-any-writes-returns-then-writes t c = going_hit c.loop-command.invariant c.in-Ok.ensures c.writes.result c.writes.ensures c.if-writes.true
+pub any_writes-returns-then-writes : goal.any_writes-returns-then-writes
+any_writes-returns-then-writes t c = going_hit c.loop-command.invariant c.in-Ok.ensures c.writes.result c.writes.ensures c.if-writes.true
 
-pub any-writes-loop-command-smaller : goal.any-writes-loop-command-smaller
-any-writes-loop-command-smaller t c =
+pub any_writes-loop-command-smaller : goal.any_writes-loop-command-smaller
+any_writes-loop-command-smaller t c =
     let l = off_bytes c.loop-command.invariant c.in-Ok.ensures in
     omega arith
 
-pub any-writes-loop-command-preserved : goal.any-writes-loop-command-preserved
-any-writes-loop-command-preserved t c = going_on c.loop-command.invariant c.in-Ok.ensures c.writes.result c.writes.ensures c.if-writes.false
+pub any_writes-loop-command-preserved : goal.any_writes-loop-command-preserved
+any_writes-loop-command-preserved t c = going_on c.loop-command.invariant c.in-Ok.ensures c.writes.result c.writes.ensures c.if-writes.false
 
-pub any-writes-returns : goal.any-writes-returns
-any-writes-returns t c = going_end c.loop-command.invariant _ c.in-default.ensures
+pub any_writes-returns : goal.any_writes-returns
+any_writes-returns t c = going_end c.loop-command.invariant _ c.in_default.ensures
 
-pub writes-any-writes-requires-then-called-limit : goal.writes-any-writes-requires-then-called-limit
-writes-any-writes-requires-then-called-limit t c =
+pub writes-any_writes-requires-then-called-limit : goal.writes-any_writes-requires-then-called-limit
+writes-any_writes-requires-then-called-limit t c =
     let all : List ℕ = vec_items c.args.self.now.held.bytes in
     let s : length c.body.result.now ≤ length all = omega (arith, ap length c.body.ensures, body_short c.args.self.now.held c.from-called.result) in
     (omega (arith, c.decreases, lighter c.from-called.result c.args.limit (length all) (length c.body.result.now) (2 * length (command_bytes (flat_of c.args.command))) c.if-called-limit.true s), tt)
@@ -38,37 +38,37 @@ pub writes-returns-in-Plain : goal.writes-returns-in-Plain
 writes-returns-in-Plain t c = plain_told _ _ _ _ _ _ (ap flat_of c.in-Plain.is) c.targets.ensures
 
 pub writes-returns-in-Loop : goal.writes-returns-in-Loop
-writes-returns-in-Loop t c = loop_told _ _ _ _ _ _ _ _ (ap flat_of c.in-Loop.is) c.any-writes.ensures
+writes-returns-in-Loop t c = loop_told _ _ _ _ _ _ _ _ (ap flat_of c.in-Loop.is) c.any_writes.ensures
 
 pub writes-returns-in-Grant : goal.writes-returns-in-Grant
-writes-returns-in-Grant t c = grant_told _ _ _ _ _ _ _ (ap flat_of c.in-Grant.is) c.any-writes-in-Grant.ensures
+writes-returns-in-Grant t c = grant_told _ _ _ _ _ _ _ (ap flat_of c.in-Grant.is) c.any_writes-in-Grant.ensures
 
 pub writes-returns-then-called-limit : goal.writes-returns-then-called-limit
-writes-returns-then-called-limit t c = call_told _ _ _ _ _ c.from-called.result _ _ (ap flat_of c.in-Call.is) c.from-called.ensures c.if-called-limit.true c.body.ensures c.any-writes-then-called-limit.ensures
+writes-returns-then-called-limit t c = call_told _ _ _ _ _ c.from-called.result _ _ (ap flat_of c.in-Call.is) c.from-called.ensures c.if-called-limit.true c.body.ensures c.any_writes-then-called-limit.ensures
 
 pub writes-returns-else-called-limit : goal.writes-returns-else-called-limit
 writes-returns-else-called-limit t c = no_call_told _ _ _ _ _ c.from-called.result (ap flat_of c.in-Call.is) c.from-called.ensures c.if-called-limit.false
 
-pub either-writes-returns-then-any-writes : goal.either-writes-returns-then-any-writes
-either-writes-returns-then-any-writes t c = first_told _ _ _ _ _ _ c.any-writes.ensures c.if-any-writes.true
+pub either_writes-returns-then-any_writes : goal.either_writes-returns-then-any_writes
+either_writes-returns-then-any_writes t c = first_told _ _ _ _ _ _ c.any_writes.ensures c.if-any_writes.true
 
-pub either-writes-returns-else-any-writes : goal.either-writes-returns-else-any-writes
-either-writes-returns-else-any-writes t c = second_told _ _ _ _ _ _ c.any-writes.ensures _ c.if-any-writes.false c.any-writes-else-any-writes.ensures
+pub either_writes-returns-else-any_writes : goal.either_writes-returns-else-any_writes
+either_writes-returns-else-any_writes t c = second_told _ _ _ _ _ _ c.any_writes.ensures _ c.if-any_writes.false c.any_writes-else-any_writes.ensures
 
-pub writes-either-writes-requires : goal.writes-either-writes-requires
-writes-either-writes-requires t c =
+pub writes-either_writes-requires : goal.writes-either_writes-requires
+writes-either_writes-requires t c =
     let l : length (command_bytes (flat_of c.args.command)) ≡ _ = ap (λ (x : Flat). length (command_bytes x)) (ap flat_of c.in-When.is) in
     let n = length-append c.in-When.first.now c.in-When.second.now in
     (omega (arith, c.decreases), tt)
 
-pub writes-either-writes-requires-in-Try : goal.writes-either-writes-requires-in-Try
-writes-either-writes-requires-in-Try t c =
+pub writes-either_writes-requires-in-Try : goal.writes-either_writes-requires-in-Try
+writes-either_writes-requires-in-Try t c =
     let l : length (command_bytes (flat_of c.args.command)) ≡ _ = ap (λ (x : Flat). length (command_bytes x)) (ap flat_of c.in-Try.is) in
     let n = length-append c.in-Try.first.now c.in-Try.second.now in
     (omega (arith, c.decreases), tt)
 
 pub writes-returns-in-When : goal.writes-returns-in-When
-writes-returns-in-When t c = choice_told _ _ _ _ (when_place _) _ _ _ (ap flat_of c.in-When.is) c.either-writes.ensures
+writes-returns-in-When t c = choice_told _ _ _ _ (when_place _) _ _ _ (ap flat_of c.in-When.is) c.either_writes.ensures
 
 pub writes-returns-in-Try : goal.writes-returns-in-Try
-writes-returns-in-Try t c = choice_told _ _ _ _ (try_frame _ _) _ _ _ (ap flat_of c.in-Try.is) c.either-writes-in-Try.ensures
+writes-returns-in-Try t c = choice_told _ _ _ _ (try_frame _ _) _ _ _ (ap flat_of c.in-Try.is) c.either_writes-in-Try.ensures

@@ -6,17 +6,17 @@ use Rattle.oracles.proofs.Walks.{Going}
 use Rattle.oracles.proofs.walking.Walking.+any_writes_either_writes_writes.Given as goal
 
 -- a lower procedure weighs less, however long its body
-abbrev pub decreases-any-writes : goal.decreases-any-writes
-decreases-any-writes l = l.limit * (2 * length (vec_items l.self.now.held.bytes) + 2) + (2 * length l.bytes.now + 1)
+abbrev pub decreases-any_writes : goal.decreases-any_writes
+decreases-any_writes l = l.limit * (2 * length (vec_items l.self.now.held.bytes) + 2) + (2 * length l.bytes.now + 1)
 
-abbrev pub decreases-either-writes : goal.decreases-either-writes
-decreases-either-writes l = l.limit * (2 * length (vec_items l.self.now.held.bytes) + 2) + (2 * (length l.first.now + length l.second.now) + 2)
+abbrev pub decreases-either_writes : goal.decreases-either_writes
+decreases-either_writes l = l.limit * (2 * length (vec_items l.self.now.held.bytes) + 2) + (2 * (length l.first.now + length l.second.now) + 2)
 
 abbrev pub decreases-writes : goal.decreases-writes
 decreases-writes l = l.limit * (2 * length (vec_items l.self.now.held.bytes) + 2) + 2 * length (command_bytes (flat_of l.command))
 
-abbrev pub invariant-any-writes-loop-command : goal.invariant-any-writes-loop-command
-invariant-any-writes-loop-command l = Going (kept l.self) l.limit l.place l.bytes l.rest
+abbrev pub invariant-any_writes-loop-command : goal.invariant-any_writes-loop-command
+invariant-any_writes-loop-command l = Going (kept l.self) l.limit l.place l.bytes l.rest
 
-abbrev pub decreases-any-writes-loop-command : goal.decreases-any-writes-loop-command
-decreases-any-writes-loop-command l = length l.rest
+abbrev pub decreases-any_writes-loop-command : goal.decreases-any_writes-loop-command
+decreases-any_writes-loop-command l = length l.rest

@@ -13,7 +13,7 @@ returns-in-Some c =
     let is : ss ≡ vec_items h.contents.blocks = c.deref.ensures.value ∙ ap (λ (x : Contents). vec_items x.blocks) c.contents-contents.ensures in
     let q = c.in-Some.ensures.lookup in
     let lies = c.part-commands.ensures ∙ block_found h c.args.block ss is c.bytes.result.now c.in-Some.span.now c.bytes.ensures q.3.0 (q.3.1 c.in-Some.span.now) in
-    block_named h c.args.block ss is c.part-commands.result.now c.args.place c.len.result c.any-writes.result (c.len.ensures ∙ c.contents-contents.result.now.procedures.ok.0 ∙ ap (λ (x : Contents). length (vec_items x.procedures)) c.contents-contents.ensures) lies c.any-writes.ensures
+    block_named h c.args.block ss is c.part-commands.result.now c.args.place c.len.result c.any_writes.result (c.len.ensures ∙ c.contents-contents.result.now.procedures.ok.0 ∙ ap (λ (x : Contents). length (vec_items x.procedures)) c.contents-contents.ensures) lies c.any_writes.ensures
 
 pub returns-in-None : goal.returns-in-None
 returns-in-None c =

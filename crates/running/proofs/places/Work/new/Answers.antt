@@ -8,14 +8,14 @@ use Rattle.running.proofs.Sets.{new_length, new_held}
 use Rattle.running.proofs.Going.{laws_of}
 use Rattle.running.proofs.places.Work.new.Goals as goal
 
-pub invariant-of-result : goal.invariant-of-result
-invariant-of-result c =
+pub invariant_of-result : goal.invariant_of-result
+invariant_of-result c =
     let h = c.args.held.now in
-    let is : vec_items c.in-ok-items.items ≡ (new (program_of h)).places = c.in-ok-items.ensures ∙ ap (λ (x : Contents). (new (declared_by x)).places) c.contents.ensures in
-    (omega (arith, ap length is, new_length (program_of h), (laws_of h).few_places, c.in-ok-items.items.ok.0), tt)
+    let is : vec_items c.in_ok-items.items ≡ (new (program_of h)).places = c.in_ok-items.ensures ∙ ap (λ (x : Contents). (new (declared_by x)).places) c.contents.ensures in
+    (omega (arith, ap length is, new_length (program_of h), (laws_of h).few_places, c.in_ok-items.items.ok.0), tt)
 
 pub returns : goal.returns
 returns c =
     new_held (program_of c.args.held.now) _ _
-    (c.in-ok-items.ensures ∙ ap (λ (x : Contents). (new (declared_by x)).places) c.contents.ensures)
-    (c.in-ok-devices.ensures ∙ ap (λ (x : Contents). (new (declared_by x)).devices) c.contents-2.ensures)
+    (c.in_ok-items.ensures ∙ ap (λ (x : Contents). (new (declared_by x)).places) c.contents.ensures)
+    (c.in_ok-devices.ensures ∙ ap (λ (x : Contents). (new (declared_by x)).devices) c.contents-2.ensures)
