@@ -20,7 +20,7 @@ use Rattle.oracles.specs.Answers.{TellsAll}
 use Rattle.oracles.proofs.Walks.{block_told}
 
 no_procedure : Procedure
-no_procedure = record { party = 0; start = 0; length = 0; block = 0; height = 0; steps = 0 }
+no_procedure = record { party = 0; start = 0; length = 0; height = 0; steps = 0 }
 
 module _ (h : Package) where
   abbrev P : Program
