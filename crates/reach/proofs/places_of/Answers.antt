@@ -4,7 +4,7 @@ use Rattle.reach.proofs.places_of.Goals as goal
 use Rattle.reach.proofs.places_of.Goals.{then-names+in_ok-push, else-names}
 
 pub loop-place-init : goal.loop-place-init
-loop-place-init g c = c.new_places.ensures.items ∙ sym (passing_none _)
+loop-place-init g c = c.new-places.ensures.items ∙ sym (passing_none _)
 
 pub loop-place-preserved : goal.loop-place-preserved
 loop-place-preserved g c =

@@ -14,4 +14,4 @@ loop-right-preserved g c =
     ]
 
 pub returns : goal.returns
-returns g c = passing_all (g.K.FrameKind.meaning.holds c.args.code) c.loop-right.right _ _ c.loop-right.invariant c.loop-right-test.false c.loop-right.auto.right_end
+returns g c = passing_all (g.K.FrameKind.meaning.holds c.args.code) c.loop-right.right _ _ c.loop-right.invariant c.loop-right-test.false c.loop-right.auto.right-end
