@@ -182,6 +182,15 @@ NAMES = """
     withPlaces with_places, writesB writes_block, writesS writes_commands
 """
 
+# what imports are called in contracts
+ALIASES = """
+    actOf act_of, blockCount block_count, bodiesOf bodies_of, broadSets broad_sets, closeOf close_of,
+    combineOf combine_of, cycleOf cycle_of, driveOf drive_of, flatChoose flat_choose, flatGrant flat_grant,
+    flatLoop flat_loop, flatTurns flat_turns, isCell is_cell, isTable is_table, lowerIn lower_in, mayLead may_lead,
+    newOf new_of, obstacleOf obstacle_of, operationOf operation_of, ownsIt owns_it, placeAt place_at,
+    toldBy told_by, unreadNumber unread_number
+"""
+
 NAME = re.compile(r"[^\s(){}\[\];,.:«»λ&|!?\"@]+")
 GHOST = re.compile(r"^\s*(ghost\b|requires\b|ensures\b)")
 
@@ -190,7 +199,7 @@ def table(text):
     return dict(pair.split() for pair in text.replace("\n", " ").split(",") if pair.strip())
 
 
-CONSTRUCTOR, FIELD, OTHER = table(CONSTRUCTORS), table(FIELDS), table(NAMES)
+CONSTRUCTOR, FIELD, OTHER = table(CONSTRUCTORS), table(FIELDS), table(NAMES) | table(ALIASES)
 
 
 def respelled(line):

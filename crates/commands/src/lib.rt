@@ -1,7 +1,7 @@
 // Commands, taken off the front of a block.
 ghost use Rattle.std.specs.Prelude.{◌≡◌, ℕ, ◌+◌, ◌-◌, ◌*◌, ◌<◌, ◌≤◌, length, MatchResult, slice_index};
 ghost use Rattle.layout.specs.Front.{front};
-ghost use Rattle.layout.specs.Layout.{loop as flatLoop, grant as flatGrant};
+ghost use Rattle.layout.specs.Layout.{loop as flat_loop, grant as flat_grant};
 ghost use Rattle.layout.specs.Tree.{when_place, try_frame};
 ghost use Rattle.commands.specs.Reads.{Reads, CutOff, one_block, two_blocks};
 
@@ -227,7 +227,7 @@ fn repeat<'a>(
     l: u16,
     rest: &'a [u8],
 ) -> Result<(Command<'a>, &'a [u8]), Unread>
-    ensures { Reads (one_block (λ y. flatLoop place times y) l rest.now) result }
+    ensures { Reads (one_block (λ y. flat_loop place times y) l rest.now) result }
 {
     let (body, rest) = cut(rest, l)?;
     let command = Command::Loop { place, times, body };
@@ -236,7 +236,7 @@ fn repeat<'a>(
 
 // A GRANT, whose block has this length.
 fn granting<'a>(frame: u64, l: u16, rest: &'a [u8]) -> Result<(Command<'a>, &'a [u8]), Unread>
-    ensures { Reads (one_block (λ y. flatGrant frame y) l rest.now) result }
+    ensures { Reads (one_block (λ y. flat_grant frame y) l rest.now) result }
 {
     let (body, rest) = cut(rest, l)?;
     let command = Command::Grant { frame, body };

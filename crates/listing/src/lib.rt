@@ -1,6 +1,6 @@
 // What a package holds, line by line, and why it is refused.
 ghost use Rattle.std.specs.Prelude.{◌≡◌, ◌++◌, IfOk, OnOk};
-ghost use Rattle.layout.specs.Accepted.{bodies as bodiesOf};
+ghost use Rattle.layout.specs.Accepted.{bodies as bodies_of};
 ghost use Rattle.layout.specs.Packages.{contents as contents_of};
 ghost use Rattle.package.specs.Loads.{tree_of};
 ghost use Rattle.package.specs.Declares.{contents_of as holding};
@@ -33,7 +33,7 @@ fn list_places(lines: &mut Vec<Line>, contents: &Contents) -> Result<(), AllocEr
 
 // Lists the procedures with their bodies.
 fn list_bodies(lines: &mut Vec<Line>, held: &Package) -> Result<(), AllocError>
-    ensures { OnOk result (lines.new.items ≡ lines.old.items ++ body_lines (contents_of (tree_of held.now)) (bodiesOf (tree_of held.now))) }
+    ensures { OnOk result (lines.new.items ≡ lines.old.items ++ body_lines (contents_of (tree_of held.now)) (bodies_of (tree_of held.now))) }
 {
     let contents = held.contents();
     lines.push(Line::Heading {
@@ -50,7 +50,7 @@ fn list_bodies(lines: &mut Vec<Line>, held: &Package) -> Result<(), AllocError>
 
 // Every declaration of a package by its sort, in order, and every command of its bodies.
 pub fn listing(heap: Global, held: &Package) -> Result<Vec<Line>, AllocError>
-    ensures { IfOk result (λ v. v.items ≡ listed (contents_of (tree_of held.now)) (bodiesOf (tree_of held.now))) }
+    ensures { IfOk result (λ v. v.items ≡ listed (contents_of (tree_of held.now)) (bodies_of (tree_of held.now))) }
 {
     let contents = held.contents();
     let mut lines = Vec::new(heap);

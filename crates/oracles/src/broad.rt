@@ -1,5 +1,5 @@
 // The broad oracle: every place of the package for every block of it.
-ghost use Rattle.oracle_laws.specs.Sets.{broad as broadSets};
+ghost use Rattle.oracle_laws.specs.Sets.{broad as broad_sets};
 ghost use Rattle.oracles.specs.Answers.{broad_answers};
 ghost use Rattle.oracle_laws.proofs.Broad.{broad_lawful_lem};
 
@@ -15,7 +15,7 @@ pub struct Broad {
 }
 
 impl WriteOracle for Broad {
-    ghost sets = { broadSets };
+    ghost sets = { broad_sets };
 
     ghost answers = { broad_answers };
 

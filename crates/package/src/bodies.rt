@@ -1,11 +1,11 @@
 // The body of a procedure, checked: its blocks, its most steps and the highest procedure that it calls, or its first fault.
 ghost use Rattle.std.specs.Prelude.{◌≡◌, ℕ, ◌+◌, ◌-◌, ◌*◌, ◌^◌, ◌<◌, ◌≤◌, length, vec_len, slice_index};
 ghost use Rattle.layout.specs.Tree.{Choice};
-ghost use Rattle.layout.specs.Layout.{command_bytes, choose as flatChoose, choice_head};
-ghost use Rattle.layout.specs.Scope.{turns as flatTurns, named, targets, low, blocks as blockCount, plain_named, plain_targets, place as is_place, table as isTable, device as is_device, cell as isCell};
+ghost use Rattle.layout.specs.Layout.{command_bytes, choose as flat_choose, choice_head};
+ghost use Rattle.layout.specs.Scope.{turns as flat_turns, named, targets, low, blocks as block_count, plain_named, plain_targets, place as is_place, table as is_table, device as is_device, cell as is_cell};
 ghost use Rattle.layout.specs.Limits.{Kept};
 ghost use Rattle.layout.specs.Declarations.{heights_of, steps_of};
-ghost use Rattle.commands.specs.Reads.{plain_of, flat_of, unread as unreadNumber};
+ghost use Rattle.commands.specs.Reads.{plain_of, flat_of, unread as unread_number};
 ghost use Rattle.package.specs.Holds.{number, offset, scope_of, Decides};
 ghost use Rattle.package.specs.Walks.{capped, WalksOne, WalksAll, WalksBlock, WalksBody};
 
@@ -47,7 +47,7 @@ impl Scope<'_> {
     }
 
     fn has_table(self, table: u8) -> bool
-        ensures { result ≡ isTable (scope_of self.entry) table }
+        ensures { result ≡ is_table (scope_of self.entry) table }
     {
         usize::from(table) < self.tables
     }
@@ -59,7 +59,7 @@ impl Scope<'_> {
     }
 
     fn is_no_input(self, place: u8) -> bool
-        ensures { result ≡ isCell (scope_of self.entry) place }
+        ensures { result ≡ is_cell (scope_of self.entry) place }
     {
         self.inputs <= usize::from(place)
     }
@@ -161,7 +161,7 @@ fn spares_inputs<'a, 'b>(command: Command<'a>, scope: Scope<'b>) -> bool
 
 // Whether a loop turns at least once.
 fn turns<'a>(command: Command<'a>) -> bool
-    ensures { result ≡ flatTurns (flat_of command.entry) }
+    ensures { result ≡ flat_turns (flat_of command.entry) }
 {
     match command {
         Command::Loop {
@@ -212,7 +212,7 @@ fn reaches<'a, 'b>(command: Command<'a>, scope: Scope<'b>, depth: u8) -> bool
 
 // How many blocks a command has.
 fn count<'a>(command: Command<'a>) -> usize
-    ensures { result ≡ blockCount (flat_of command.entry) }
+    ensures { result ≡ block_count (flat_of command.entry) }
 {
     match command {
         Command::Plain(_) => 0,
@@ -260,7 +260,7 @@ fn first_fault<'a, 'b>(
 
 // The refusal of bytes that are no command.
 fn unreadable(unread: Unread, at: usize) -> Refusal
-    ensures { (number result ≡ unreadNumber unread) × (offset result ≡ at) }
+    ensures { (number result ≡ unread_number unread) × (offset result ≡ at) }
 {
     match unread {
         Unread::NoSuchByte => Refusal::NoSuchByte(at),
@@ -358,7 +358,7 @@ fn choose<'a>(
     requires deep { nest.depth < 8 }
     ensures back { end.new ≡ end.old }
     ensures few { vec_len blocks.new + nest.waiting ≤ 256 }
-    ensures walks { (c : Choice) (at : ℕ) → at + choice_head c ≡ start → Kept (scope_of scope.entry) nest.depth (flatChoose c first.now second.now) → WalksOne (scope_of scope.entry) (flatChoose c first.now second.now) at nest.depth nest.waiting blocks.old.items blocks.new.items result }
+    ensures walks { (c : Choice) (at : ℕ) → at + choice_head c ≡ start → Kept (scope_of scope.entry) nest.depth (flat_choose c first.now second.now) → WalksOne (scope_of scope.entry) (flat_choose c first.now second.now) at nest.depth nest.waiting blocks.old.items blocks.new.items result }
 {
     let depth = nest.depth + 1;
     let one = block(

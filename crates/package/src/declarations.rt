@@ -1,7 +1,7 @@
 // Declarations, taken off the front of a package.
 ghost use Rattle.std.specs.Prelude.{◌≡◌, ℕ, ◌+◌, ◌-◌, ◌^◌, ◌<◌, ◌≤◌, length, slice_index};
 ghost use Rattle.layout.specs.Declarations.{table_item, lead, simple};
-ghost use Rattle.layout.specs.Packages.{leads as mayLead};
+ghost use Rattle.layout.specs.Packages.{leads as may_lead};
 ghost use Rattle.package.specs.Items.{ReadsItem, ReadsProcedure, Takes, item_of};
 
 use super::refusal::Refusal;
@@ -107,7 +107,7 @@ fn decode_declaration<'a>(bytes: &'a [u8]) -> Option<(Declaration<'a>, &'a [u8])
 
 // Whether a byte may lead a declaration.
 fn leads(byte: u8) -> bool
-    ensures { result ≡ mayLead byte }
+    ensures { result ≡ may_lead byte }
 {
     0x81 <= byte && byte <= 0x88
 }

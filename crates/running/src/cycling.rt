@@ -1,6 +1,6 @@
 // A cycle: the entries of a package, one after the other.
 ghost use Rattle.std.specs.Prelude.{◌≡◌, ℕ, ◌+◌, ◌<◌};
-ghost use Rattle.rules.specs.Calls.{cycle as cycleOf};
+ghost use Rattle.rules.specs.Calls.{cycle as cycle_of};
 ghost use Rattle.running.specs.States.{state_of, held_of};
 ghost use Rattle.running.specs.Parts.{assembled};
 ghost use Rattle.running.specs.Entries.{program_of, entry_run, CanRun};
@@ -37,7 +37,7 @@ pub fn run_cycle<A: Assembly>(
     stack: &mut Stack,
     work: &mut Work,
 )
-    ensures { state_of work.new ≡ cycleOf (assembled A.Kind.FrameKind.meaning A.Kind.GrantKind.widening (A.Oracle.WriteOracle.answers oracle.now)) (program_of held.now) (held_of work.old) }
+    ensures { state_of work.new ≡ cycle_of (assembled A.Kind.FrameKind.meaning A.Kind.GrantKind.widening (A.Oracle.WriteOracle.answers oracle.now)) (program_of held.now) (held_of work.old) }
 {
     work.steps = 0;
     work.refused = 0;

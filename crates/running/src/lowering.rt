@@ -1,7 +1,7 @@
 // Places that are lowered: their frames are mixed with what a decision, or an index, told.
 ghost use Rattle.std.specs.Prelude.{◌≡◌, ℕ, ◌+◌, ◌<◌, ◌≤◌, length, vec_len, slice_index_or, slice_set};
 ghost use Rattle.oracle_laws.specs.Sets.{cell_of};
-ghost use Rattle.rules.specs.Running.{place as place_of, lowered, lower as lowerIn};
+ghost use Rattle.rules.specs.Running.{place as place_of, lowered, lower as lower_in};
 ghost use Rattle.running.specs.States.{state_of};
 ghost use Rattle.running.specs.Parts.{mixing, named_for, between};
 
@@ -47,7 +47,7 @@ pub(crate) fn lower_named<A: Assembly>(
     told: u64,
     work: &mut Work,
 )
-    ensures { state_of work.new ≡ lowerIn (mixing A.Kind.FrameKind.meaning) (named_for (A.Oracle.WriteOracle.answers oracle.now) blocks) told (state_of work.old) }
+    ensures { state_of work.new ≡ lower_in (mixing A.Kind.FrameKind.meaning) (named_for (A.Oracle.WriteOracle.answers oracle.now) blocks) told (state_of work.old) }
 {
     for i in 0..work.places.len() {
         if names(oracle, blocks, i as u8) {
@@ -58,7 +58,7 @@ pub(crate) fn lower_named<A: Assembly>(
 
 // Lowers the places from `first` on and below `end`.
 fn lower_between<K: FrameKind>(first: usize, end: usize, told: u64, work: &mut Work)
-    ensures { state_of work.new ≡ lowerIn (mixing K.FrameKind.meaning) (between first end) told (state_of work.old) }
+    ensures { state_of work.new ≡ lower_in (mixing K.FrameKind.meaning) (between first end) told (state_of work.old) }
 {
     for i in first..end {
         if i < work.places.len() {
@@ -69,7 +69,7 @@ fn lower_between<K: FrameKind>(first: usize, end: usize, told: u64, work: &mut W
 
 // Lowers every cell of a table.
 pub(crate) fn lower_cells<K: FrameKind>(table: Table, told: u64, work: &mut Work)
-    ensures { state_of work.new ≡ lowerIn (mixing K.FrameKind.meaning) (cell_of table) told (state_of work.old) }
+    ensures { state_of work.new ≡ lower_in (mixing K.FrameKind.meaning) (cell_of table) told (state_of work.old) }
 {
     let first = usize::from(table.first);
     lower_between::<K>(first, first + usize::from(table.length), told, work);

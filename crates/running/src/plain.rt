@@ -1,8 +1,8 @@
 // What each plain command does.
 ghost use Rattle.std.specs.Prelude.{◌≡◌, ℕ, ◌+◌, ◌^◌, ◌<◌};
-ghost use Rattle.commands.specs.Reads.{operation as operationOf, plain_of};
-ghost use Rattle.rules.specs.Values.{combine as combineOf};
-ghost use Rattle.rules.specs.Running.{State, at as placeAt, place as place_of, write as written, set_to, copied, combined, pick as pick_of, put as put_of, obstacle as obstacleOf, drive as driveOf, run_plain};
+ghost use Rattle.commands.specs.Reads.{operation as operation_of, plain_of};
+ghost use Rattle.rules.specs.Values.{combine as combine_of};
+ghost use Rattle.rules.specs.Running.{State, at as place_at, place as place_of, write as written, set_to, copied, combined, pick as pick_of, put as put_of, obstacle as obstacle_of, drive as drive_of, run_plain};
 ghost use Rattle.running.specs.States.{state_of};
 ghost use Rattle.running.specs.Parts.{mixing, declared_by};
 
@@ -18,7 +18,7 @@ use std::option::Option;
 
 // What two values are combined to.
 fn combine(operation: Operation, a: u32, b: u32) -> u32
-    ensures { result ≡ combineOf (operationOf operation) a b }
+    ensures { result ≡ combine_of (operation_of operation) a b }
 {
     match operation {
         Operation::Add => a.wrapping_add(b),
@@ -37,7 +37,7 @@ fn set<K: FrameKind>(work: &mut Work, context: Context, target: u8, value: u32)
 }
 
 fn copy<K: FrameKind>(work: &mut Work, context: Context, target: u8, source: u8)
-    ensures { state_of work.new ≡ written (state_of work.old) target (copied (mixing K.FrameKind.meaning) context (placeAt (state_of work.old) source)) }
+    ensures { state_of work.new ≡ written (state_of work.old) target (copied (mixing K.FrameKind.meaning) context (place_at (state_of work.old) source)) }
 {
     let (value, told) = work.fetch(source);
     let frame = K::mix(context.decisions, K::mix(context.own, told));
@@ -52,7 +52,7 @@ fn join<K: FrameKind>(
     left: u8,
     right: u8,
 )
-    ensures { state_of work.new ≡ written (state_of work.old) target (combined (mixing K.FrameKind.meaning) (operationOf operation) context (placeAt (state_of work.old) left) (placeAt (state_of work.old) right)) }
+    ensures { state_of work.new ≡ written (state_of work.old) target (combined (mixing K.FrameKind.meaning) (operation_of operation) context (place_at (state_of work.old) left) (place_at (state_of work.old) right)) }
 {
     let (a, one) = work.fetch(left);
     let (b, other) = work.fetch(right);
@@ -63,7 +63,7 @@ fn join<K: FrameKind>(
 
 // What a PICK at this index gives.
 fn picked<K: FrameKind>(work: &Work, context: Context, table: Table, index: u8) -> Place
-    ensures { result ≡ pick_of (mixing K.FrameKind.meaning) context table (placeAt (state_of work.now) index) (state_of work.now) }
+    ensures { result ≡ pick_of (mixing K.FrameKind.meaning) context table (place_at (state_of work.now) index) (state_of work.now) }
 {
     let (at, frame) = work.fetch(index);
     let told = K::mix(context.own, frame);
@@ -78,7 +78,7 @@ fn picked<K: FrameKind>(work: &Work, context: Context, table: Table, index: u8) 
 }
 
 fn put<K: FrameKind>(work: &mut Work, context: Context, table: Table, index: u8, source: u8)
-    ensures { state_of work.new ≡ put_of (mixing K.FrameKind.meaning) context table (placeAt (state_of work.old) index) (placeAt (state_of work.old) source) (state_of work.old) }
+    ensures { state_of work.new ≡ put_of (mixing K.FrameKind.meaning) context table (place_at (state_of work.old) index) (place_at (state_of work.old) source) (state_of work.old) }
 {
     let (at, frame) = work.fetch(index);
     let (value, held) = work.fetch(source);
@@ -95,7 +95,7 @@ fn put<K: FrameKind>(work: &mut Work, context: Context, table: Table, index: u8,
 
 // Why a drive by a place of this frame is refused, and the right that is missing.
 fn obstacle<K: GrantKind>(context: Context, need: u64, frame: u64) -> Option<(Cause, u8)>
-    ensures { (v : ℕ) → result ≡ obstacleOf (mixing K.FrameKind.meaning) context need (place_of v frame) }
+    ensures { (v : ℕ) → result ≡ obstacle_of (mixing K.FrameKind.meaning) context need (place_of v frame) }
 {
     if let Some(right) = K::gap(context.rights, need) {
         return Some((Cause::Rights, right));
@@ -117,7 +117,7 @@ fn drive<K: GrantKind>(
     source: u8,
 )
     requires { work.old.refused + 1 < 2 ^ 32 }
-    ensures { state_of work.new ≡ driveOf (mixing K.FrameKind.meaning) context offset device need (placeAt (state_of work.old) source) (state_of work.old) }
+    ensures { state_of work.new ≡ drive_of (mixing K.FrameKind.meaning) context offset device need (place_at (state_of work.old) source) (state_of work.old) }
 {
     let (value, frame) = work.fetch(source);
     match obstacle::<K>(context, need, frame) {

@@ -1,6 +1,6 @@
 // The places and devices of a new controller.
 ghost use Rattle.std.specs.Prelude.{◌≡◌, ◌++◌, map, IfOk, OnOk};
-ghost use Rattle.rules.specs.Calls.{new_input, new_cell, new_device, new as newOf};
+ghost use Rattle.rules.specs.Calls.{new_input, new_cell, new_device, new as new_of};
 ghost use Rattle.running.specs.States.{held_of};
 ghost use Rattle.running.specs.Parts.{declared_by};
 ghost use Rattle.running.specs.Entries.{program_of};
@@ -62,7 +62,7 @@ fn add_devices(devices: &mut Vec<Device>, needs: &[u64]) -> Result<(), AllocErro
 
 // The places of a new controller.
 fn new_places(heap: Global, contents: &Contents) -> Result<Vec<Place>, AllocError>
-    ensures { IfOk result (λ v. v.items ≡ (newOf (declared_by contents.now)).places) }
+    ensures { IfOk result (λ v. v.items ≡ (new_of (declared_by contents.now)).places) }
 {
     let mut places = Vec::new(heap);
     add_inputs(&mut places, contents)?;
@@ -72,7 +72,7 @@ fn new_places(heap: Global, contents: &Contents) -> Result<Vec<Place>, AllocErro
 
 // Its devices.
 fn new_devices(heap: Global, contents: &Contents) -> Result<Vec<Device>, AllocError>
-    ensures { IfOk result (λ v. v.items ≡ (newOf (declared_by contents.now)).devices) }
+    ensures { IfOk result (λ v. v.items ≡ (new_of (declared_by contents.now)).devices) }
 {
     let mut devices = Vec::new(heap);
     add_devices(&mut devices, &contents.needs)?;
@@ -82,7 +82,7 @@ fn new_devices(heap: Global, contents: &Contents) -> Result<Vec<Device>, AllocEr
 impl Work {
     // Places and devices as a package declares them, and no trail.
     pub fn new(heap: Global, held: &Package) -> Result<Work, AllocError>
-        ensures { IfOk result (λ w. held_of w ≡ newOf (program_of held.now)) }
+        ensures { IfOk result (λ w. held_of w ≡ new_of (program_of held.now)) }
     {
         let items = new_places(heap, held.contents())?;
         let devices = new_devices(heap, held.contents())?;

@@ -3,10 +3,10 @@ ghost use Rattle.std.specs.Prelude.{◌≡◌, ℕ, ◌+◌, ◌-◌, ◌^◌, �
 ghost use Rattle.commands.specs.Reads.{flat_of};
 ghost use Rattle.package.specs.Declares.{contents_of};
 ghost use Rattle.rules.specs.Assembly.{covers};
-ghost use Rattle.rules.specs.Running.{at as placeAt, told as toldBy};
+ghost use Rattle.rules.specs.Running.{at as place_at, told as told_by};
 ghost use Rattle.running.specs.States.{state_of};
 ghost use Rattle.running.specs.Parts.{mixing, granting, assembled};
-ghost use Rattle.running.specs.Levels.{above, running, act as actOf, turn_level, closed_loop, close as closeOf, turn_of, left};
+ghost use Rattle.running.specs.Levels.{above, running, act as act_of, turn_level, closed_loop, close as close_of, turn_of, left};
 
 use crate::assembly::Assembly;
 use crate::entering::{call, choose, go_on, grant, repeat};
@@ -24,7 +24,7 @@ use rules::Context;
 
 // The value of a place, and the frame of what a command learns from it.
 fn learn<K: FrameKind>(work: &Work, context: Context, place: u8) -> (u32, u64)
-    ensures { result ≡ ((placeAt (state_of work.now) place).value, toldBy (mixing K.FrameKind.meaning) context (placeAt (state_of work.now) place)) }
+    ensures { result ≡ ((place_at (state_of work.now) place).value, told_by (mixing K.FrameKind.meaning) context (place_at (state_of work.now) place)) }
 {
     let (value, frame) = work.fetch(place);
     (value, K::mix(context.own, frame))
@@ -50,7 +50,7 @@ fn act<'a, K: GrantKind>(
     requires steps { work.old.steps + 1 < 2 ^ 32 }
     requires refusals { work.old.refused + 1 < 2 ^ 32 }
     requires depth { vec_len stack.old.levels < 72 }
-    ensures { running (level.new ∷ above stack.new) (state_of work.new) ≡ actOf (granting K.FrameKind.meaning K.GrantKind.widening) (contents_of contents.now) level.old (flat_of command.entry) rest (above stack.old) (state_of work.old) }
+    ensures { running (level.new ∷ above stack.new) (state_of work.new) ≡ act_of (granting K.FrameKind.meaning K.GrantKind.widening) (contents_of contents.now) level.old (flat_of command.entry) rest (above stack.old) (state_of work.old) }
 {
     work.tick();
     match command {
@@ -186,7 +186,7 @@ fn close<A: Assembly>(
     work: &mut Work,
 ) -> bool
     requires { work.old.steps + 1 < 2 ^ 32 }
-    ensures { running (left result level.new stack.new) (state_of work.new) ≡ closeOf (assembled A.Kind.FrameKind.meaning A.Kind.GrantKind.widening (A.Oracle.WriteOracle.answers oracle.now)) level.old level.old.closing (above stack.old) (state_of work.old) }
+    ensures { running (left result level.new stack.new) (state_of work.new) ≡ close_of (assembled A.Kind.FrameKind.meaning A.Kind.GrantKind.widening (A.Oracle.WriteOracle.answers oracle.now)) level.old level.old.closing (above stack.old) (state_of work.old) }
 {
     match level.closing {
         Closing::Nothing => leave(level, stack),

@@ -2,7 +2,7 @@
 ghost use Rattle.std.specs.Prelude.{◌≡◌, ℕ, ◌+◌, ◌^◌, ◌<◌, ◌≤◌, length, vec_len, slice_index_or};
 ghost use Rattle.std.specs.Borrow.{sem, follows};
 ghost use Rattle.std.specs.Vec.{with_item};
-ghost use Rattle.rules.specs.Running.{at as placeAt, place as place_of, tick as ticked, write as written, accept as accepted, refuse as refused, first_of};
+ghost use Rattle.rules.specs.Running.{at as place_at, place as place_of, tick as ticked, write as written, accept as accepted, refuse as refused, first_of};
 ghost use Rattle.rules.specs.Calls.{device_in};
 ghost use Rattle.rules.specs.contracts.Place.{the_row as place-row};
 ghost use Rattle.running.specs.contracts.places.Places.{the_row as places_row};
@@ -32,7 +32,7 @@ impl Places {
 impl Work {
     // The value and the frame of a place; of one that is not declared, zeros.
     pub(crate) fn fetch_at(&self, place: usize) -> (u32, u64)
-        ensures { result ≡ ((placeAt (state_of self.now) place).value, (placeAt (state_of self.now) place).frame) }
+        ensures { result ≡ ((place_at (state_of self.now) place).value, (place_at (state_of self.now) place).frame) }
     {
         match self.places.items.get(place) {
             Some(held) => (held.value, held.frame),
@@ -42,7 +42,7 @@ impl Work {
 
     // The value and the frame of a command's operand.
     pub fn fetch(&self, place: u8) -> (u32, u64)
-        ensures { result ≡ ((placeAt (state_of self.now) place).value, (placeAt (state_of self.now) place).frame) }
+        ensures { result ≡ ((place_at (state_of self.now) place).value, (place_at (state_of self.now) place).frame) }
     {
         self.fetch_at(usize::from(place))
     }

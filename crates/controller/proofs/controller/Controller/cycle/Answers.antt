@@ -15,7 +15,7 @@ use Rattle.controller.proofs.controller.Controller.cycle.Goals as goal
 
 pub returns : goal.returns
 returns g c =
-    let A = assembled g.Kind.FrameKind.meaning g.Kind.GrantKind.widening (g.Oracle.WriteOracle.answers c.args.self.now.oracle) in
+    let A = assembled g.A.Kind.FrameKind.meaning g.A.Kind.GrantKind.widening (g.A.Oracle.WriteOracle.answers c.args.self.now.oracle) in
     let h = c.args.self.now.held in
     let ran : state_of c.run_cycle.new.work ≡ cycle A (says h) (held_of c.args.self.now.work) = c.run_cycle.ensures ∙ ap (λ (P : Program). cycle A P (held_of c.args.self.now.work)) (same_program h) in
     let b = cycle_bounded_lem A (tree_of h) (accepted.kept h).0 (held_of c.args.self.now.work) in

@@ -9,4 +9,4 @@ use Rattle.controller.proofs.controller.Controller.read.Goals as goal
 pub returns : goal.returns
 returns g c =
     c.read_place.ensures
-    ∙ by_tables (λ (P : Program). read_answer (mixing g.Kind.FrameKind.meaning) P (held_of c.args.self.now.work) c.args.place c.args.right) c.args.self.now.held _ c.contents.ensures
+    ∙ by_tables (λ (P : Program). read_answer (mixing g.A.Kind.FrameKind.meaning) P (held_of c.args.self.now.work) c.args.place c.args.right) c.args.self.now.held _ c.contents.ensures

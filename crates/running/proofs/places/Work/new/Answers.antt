@@ -12,7 +12,7 @@ pub invariant_of-result : goal.invariant_of-result
 invariant_of-result c =
     let h = c.args.held.now in
     let is : vec_items c.in_ok-items.items ≡ (new (program_of h)).places = c.in_ok-items.ensures ∙ ap (λ (x : Contents). (new (declared_by x)).places) c.contents.ensures in
-    (omega (arith, ap length is, new_length (program_of h), (laws_of h).few_places, c.in_ok-items.items.ok.0), tt)
+    record { few = omega (arith, ap length is, new_length (program_of h), (laws_of h).few_places, c.in_ok-items.items.ok.0) }
 
 pub returns : goal.returns
 returns c =
