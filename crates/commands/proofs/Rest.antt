@@ -1,5 +1,5 @@
 -- What `rest @ ..` names, and what stands at the front of a block, by its first byte.
-use Rattle.std.proofs.Common.{◌≡◌, ℕ, ◌+◌, ◌-◌, ◌<◌, ◌≤◌, cond, eqb, leb, List, [], ◌∷◌, length, get_or, take, drop, Result, sym, refl, ap, ◌∙◌, arith, length-drop, take_all, Bor}
+use Rattle.std.proofs.Common.{◌≡◌, ℕ, ◌-◌, ◌<◌, ◌≤◌, cond, eqb, List, [], ◌∷◌, length, get_or, take, drop, Result, sym, refl, ap, ◌∙◌, arith, length-drop, take_all, Bor}
 use Rattle.std.proofs.lemmas.Bool.{cond_both, cond-false, lt-leb, eqb-true, eqb-false}
 use Rattle.layout.specs.Tree.{Plain, set_place, when_place, try_frame}
 use Rattle.layout.specs.Bytes.{be16, be32, be64}

@@ -1,4 +1,6 @@
 // Commands, taken off the front of a block.
+#![tactic(auto)]
+
 ghost use Rattle.std.specs.Prelude.{◌≡◌, ℕ, ◌+◌, ◌-◌, ◌*◌, ◌<◌, ◌≤◌, length, MatchResult, slice_index};
 ghost use Rattle.layout.specs.Front.{front};
 ghost use Rattle.layout.specs.Layout.{loop as flat_loop, grant as flat_grant};

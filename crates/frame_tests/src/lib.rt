@@ -1,3 +1,5 @@
+#![tactic(auto)]
+
 // Tests of both frame kinds at their edges.
 #[cfg(test)]
 mod tests {

@@ -1,5 +1,5 @@
 -- The gap between two levels starts at the lower one.
-use Rattle.std.proofs.Common.{◌≡◌, ℕ, ◌<◌, ◌≤◌, true, false, ◌&&◌, ltb, ◌⊎◌, Some, None, Option, sym, arith, tests}
+use Rattle.std.proofs.Common.{◌≡◌, ℕ, ◌<◌, ◌≤◌, true, ◌&&◌, ltb, ◌⊎◌, Some, None, sym, arith, tests}
 use Rattle.frames.specs.Kinds.{gap}
 use Rattle.frames.specs.Levels.{levels}
 use Rattle.frames.specs.Gaps.{gap_some, gap_none}

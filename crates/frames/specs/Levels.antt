@@ -1,5 +1,5 @@
 -- The levels kind: a code is trusted for every right below it.
-use Rattle.std.specs.Prelude.{ℕ, min, ◌&&◌, nat_lt}
+use Rattle.std.specs.Prelude.{min, ◌&&◌, nat_lt}
 use Rattle.frames.specs.Kinds.{Kind}
 
 abbrev pub levels : Kind

@@ -1,5 +1,5 @@
 -- The laws of the rights kind, and its gap: the lowest bit of the second code without the first.
-use Rattle.std.specs.Prelude.{◌≡◌, ℕ, ◌-◌, ◌^◌, ◌<◌, ◌≤◌, Bool, true, false, not, ◌&&◌, ◌||◌, Some, None, ◌≢◌, nat_lt, refl}
+use Rattle.std.specs.Prelude.{◌≡◌, ℕ, ◌-◌, ◌^◌, ◌<◌, Bool, true, false, not, ◌&&◌, ◌||◌, Some, None, ◌≢◌, nat_lt, refl}
 use Rattle.std.proofs.Common.{sym, ap, ◌∙◌, arith, lt-ltb, le-ltb, ltb-true, lit<}
 use Rattle.std.specs.Int.Bits.{bit_and, bit_or, and_lt}
 use Rattle.std.specs.Int.Count.{count_trailing_zeros}

@@ -1,4 +1,6 @@
 // Frame kinds: a frame is a code of 64 bits, and a kind says for which rights each code is trusted.
+#![tactic(auto)]
+
 ghost use Rattle.std.specs.Prelude.{◌≡◌, ℕ, Bool, true, false};
 ghost use Rattle.frames.specs.Kinds.{Kind, Lawful, Widens, Covers, gap as gap_of};
 

@@ -1,4 +1,6 @@
 // Reads a rule package from standard input and tells what it holds, or where and why it is refused.
+#![tactic(auto)]
+
 use listing::listing;
 use listing::refusals::cause;
 use listing::steps::{Step, steps};

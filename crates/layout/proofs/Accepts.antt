@@ -1,13 +1,12 @@
 -- A package is accepted exactly where its bytes are the layout of declarations that keep the limits.
-use Rattle.std.proofs.Common.{◌≡◌, ℕ, zero, suc, ◌+◌, ◌<◌, ◌≤◌, Bool, true, false, cond, eqb, ltb, leb, List, [], ◌∷◌, ◌++◌, length, sym, refl, ap, ◌∙◌, subst, arith, length-append}
-use Rattle.std.proofs.lemmas.Bool.{cond_both, cond-true, cond-false, leb-true, le-leb, ltb-true, eqb-true, ne_eqb, and_parts, and_from, both_ways}
-use Rattle.layout.specs.Tree.{Block}
+use Rattle.std.proofs.Common.{◌≡◌, ℕ, zero, suc, ◌+◌, ◌<◌, ◌≤◌, true, false, eqb, leb, List, [], ◌∷◌, ◌++◌, length, sym, refl, ap, ◌∙◌, subst, arith, length-append}
+use Rattle.std.proofs.lemmas.Bool.{cond_both, cond-false, leb-true, le-leb, ltb-true, eqb-true, ne_eqb, and_parts, and_from, both_ways}
 use Rattle.layout.specs.Bytes.{Bytes}
 use Rattle.layout.specs.Layout.{encode_block}
 use Rattle.layout.specs.Limits.{Sound}
 use Rattle.layout.specs.Front.{Front, got, bad}
-use Rattle.layout.specs.Reading.{Got, ok, fault, and_then, demand, read_body}
-use Rattle.layout.specs.Declarations.{Simple, Declaration, simple_declaration, procedure_declaration, Item, simple, proc, item_bytes, item, lead, proc_head, Contents, nothing, scope, declare}
+use Rattle.layout.specs.Reading.{Got, ok, fault}
+use Rattle.layout.specs.Declarations.{Declaration, simple_declaration, procedure_declaration, Item, simple, proc, item_bytes, item, lead, proc_head, Contents, nothing, scope, declare}
 use Rattle.layout.specs.Packages.{room, known, filled, brief, SoundBody, Keep, KeepAll, encode, Keeps, by_lead, bodied, declaration, finish, next_item, leads, read_all, read_package, was_read, declared, accepts, declarations}
 use Rattle.layout.specs.Law.{AcceptedExactly}
 use Rattle.layout.proofs.Numbers.{bytes_left, bytes_right}

@@ -1,13 +1,13 @@
 -- The layout of a body that keeps the limits is read as that body.
-use Rattle.std.proofs.Common.{◌≡◌, ℕ, zero, suc, ◌+◌, ◌*◌, ◌<◌, ◌≤◌, Bool, true, false, cond, ltb, leb, List, [], ◌∷◌, ◌++◌, length, sym, refl, ap, ◌∙◌, subst, arith, length-append}
+use Rattle.std.proofs.Common.{◌≡◌, ℕ, zero, suc, ◌+◌, ◌<◌, ◌≤◌, Bool, true, leb, List, [], ◌∷◌, length, sym, refl, ap, ◌∙◌, arith, length-append}
 use Rattle.std.proofs.lemmas.Bool.{cond-true, le-leb}
-use Rattle.layout.specs.Tree.{Operation, add, sub, less, same, bits, Plain, set_place, copy_place, combine_places, pick_cell, put_cell, drive_device, Choice, when_place, try_frame, Command, plain_command, choose_block, loop_block, grant_block, call_procedure, Commands, no_commands, then_command, Block, numbered_block}
+use Rattle.layout.specs.Tree.{Plain, set_place, copy_place, combine_places, pick_cell, put_cell, drive_device, Choice, when_place, try_frame, Command, plain_command, choose_block, loop_block, grant_block, call_procedure, Commands, no_commands, then_command, Block, numbered_block}
 use Rattle.layout.specs.Layout.{Flat, plain, choose, loop, grant, call, plain_bytes, command_bytes, flat, encode_commands, encode_block, choice_head, loop_head, grant_head}
 use Rattle.layout.specs.Folds.{size, size_commands, size_block}
 use Rattle.layout.specs.Scope.{Scope, turns, named, targets, low, blocks}
 use Rattle.layout.specs.Limits.{Kept, Keeps, KeepsCommands, KeepsBlock, Sound}
-use Rattle.layout.specs.Front.{Front, got, bad, front}
-use Rattle.layout.specs.Reading.{Got, ok, fault, and_then, demand, checked, Reader, parts, one, next, read, inner, read_body}
+use Rattle.layout.specs.Front.{front}
+use Rattle.layout.specs.Reading.{Got, ok, and_then, demand, checked, one, next, read, inner, read_body}
 use Rattle.layout.proofs.Fronts.{front_of}
 
 pub passes : {A : Type 0} (b : Bool) (m o : ℕ) (g h : Got A) → b ≡ true → g ≡ h → demand b m o g ≡ h

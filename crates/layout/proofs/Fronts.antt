@@ -1,9 +1,9 @@
 -- The front of a block and the layout of a command.
-use Rattle.std.proofs.Common.{◌≡◌, ℕ, zero, suc, ◌+◌, ◌*◌, ◌/◌, ◌%◌, ◌<◌, ◌≤◌, Bool, true, false, cond, eqb, leb, List, [], ◌∷◌, ◌++◌, length, get_or, take, drop, sym, refl, ap, ◌∙◌, append_assoc, arith, length-append, take-append-drop, length-take-le}
+use Rattle.std.proofs.Common.{◌≡◌, ℕ, ◌+◌, ◌≤◌, cond, eqb, leb, List, [], ◌∷◌, ◌++◌, length, get_or, take, drop, refl, ap, ◌∙◌, append_assoc, arith, length-append, take-append-drop, length-take-le}
 use lib.Seq.{take-append_seam, drop-append_seam}
 use Rattle.std.proofs.lemmas.Bool.{cond_both, cond-true, leb-true, le-leb, eqb-true}
-use Rattle.layout.specs.Tree.{Operation, add, sub, less, same, bits, Plain, set_place, copy_place, combine_places, pick_cell, put_cell, drive_device, Choice, when_place, try_frame}
-use Rattle.layout.specs.Bytes.{Bytes, be16, be32, be64, two, four, eight}
+use Rattle.layout.specs.Tree.{add, sub, less, same, bits, Plain, set_place, copy_place, combine_places, pick_cell, put_cell, drive_device, Choice, when_place, try_frame}
+use Rattle.layout.specs.Bytes.{Bytes, be16, be64, two, four, eight}
 use Rattle.layout.specs.Layout.{Flat, plain, choose, loop, grant, call, plain_bytes, choice_bytes, command_bytes}
 use Rattle.layout.specs.Front.{Front, got, bad, need, cut, set_at, pair_at, triple_at, choice_at, loop_at, grant_at, call_at, front_by_code, front}
 use Rattle.layout.proofs.Numbers.{row_drop, whole2, whole4, whole8, two_at, four_at, eight_at}

@@ -1,10 +1,8 @@
 -- The front of a package and the layout of a declaration.
-use Rattle.std.proofs.Common.{◌≡◌, ℕ, zero, suc, ◌+◌, ◌*◌, ◌/◌, ◌%◌, ◌<◌, ◌≤◌, Bool, true, false, cond, eqb, leb, List, [], ◌∷◌, ◌++◌, length, get_or, drop, sym, refl, ap, ◌∙◌, subst, arith}
-use Rattle.layout.specs.declared.Input.{Input}
-use Rattle.layout.specs.declared.Cell.{Cell}
-use Rattle.layout.specs.Bytes.{Bytes, be16, be32, be64, two, four, eight}
-use Rattle.layout.specs.Front.{Front, got, bad, need, cut}
-use Rattle.layout.specs.Declarations.{Simple, party_item, input_item, cell_item, table_item, device_item, entry_item, Item, simple, proc, simple_bytes, item_bytes, simple_lead, lead}
+use Rattle.std.proofs.Common.{◌≡◌, ℕ, ◌<◌, ◌≤◌, List, [], ◌∷◌, ◌++◌, length, get_or, drop, refl, ap, ◌∙◌, arith}
+use Rattle.layout.specs.Bytes.{Bytes, be16, be64, two, four, eight}
+use Rattle.layout.specs.Front.{Front, got}
+use Rattle.layout.specs.Declarations.{Simple, party_item, input_item, cell_item, table_item, device_item, entry_item, Item, simple, proc, simple_bytes, item_bytes, lead}
 use Rattle.layout.specs.Packages.{frame_at, input_at, cell_at, table_at, proc_at, entry_at, by_lead}
 use Rattle.layout.proofs.Numbers.{row_drop, whole2, whole4, whole8, two_at, four_at, eight_at}
 use Rattle.layout.proofs.Fronts.{True, by_need, by_cut, by_code, met, cut_seam}

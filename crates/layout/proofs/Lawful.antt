@@ -1,5 +1,5 @@
 -- What holds of every accepted package, declaration by declaration.
-use Rattle.std.proofs.Common.{◌≡◌, ℕ, ◌+◌, ◌<◌, ◌≤◌, Bool, true, false, eqb, ltb, leb, List, [], ◌∷◌, ◌++◌, map, length, get_or, take, drop, sym, refl, ap, ◌∙◌, subst, append_assoc, append-nil, arith, length-append, length-drop, drop-drop}
+use Rattle.std.proofs.Common.{◌≡◌, ℕ, ◌+◌, ◌<◌, ◌≤◌, false, eqb, ltb, List, [], ◌∷◌, ◌++◌, map, length, get_or, take, drop, sym, refl, ap, ◌∙◌, subst, append_assoc, append-nil, arith, length-append, length-drop, drop-drop}
 use mathlib.Core.List.{map-append}
 use lib.ListN.{length-map}
 use lib.Seq.{take-append_seam, take-append-le, drop-append_seam}
@@ -15,9 +15,9 @@ use Rattle.layout.specs.Bytes.{two}
 use Rattle.layout.specs.Layout.{encode_block}
 use Rattle.layout.specs.Folds.{size_block, most_block, highest_block, spans_block}
 use Rattle.layout.specs.Scope.{Scope}
-use Rattle.layout.specs.Limits.{KeepsBlock, Sound}
-use Rattle.layout.specs.Declarations.{Simple, party_item, input_item, cell_item, table_item, device_item, entry_item, Declaration, simple_declaration, procedure_declaration, proc, item_bytes, item, lead, proc_head, Contents, nothing, places, heights_of, steps_of, heights, body_steps, scope, with_entry, procedure, declare_simple, declare}
-use Rattle.layout.specs.Packages.{Keep, KeepAll, encode, Keeps, contents_from, contents}
+use Rattle.layout.specs.Limits.{KeepsBlock}
+use Rattle.layout.specs.Declarations.{Simple, party_item, input_item, cell_item, table_item, device_item, entry_item, Declaration, simple_declaration, procedure_declaration, proc, item_bytes, item, lead, proc_head, Contents, nothing, places, body_steps, scope, procedure, declare_simple, declare}
+use Rattle.layout.specs.Packages.{Keep, KeepAll, encode, contents_from}
 use Rattle.layout.specs.Accepted.{bodies, below, LawfulProcedure, LawfulProcedures, Lie, all_spans, cycle_most, Lawful, AcceptedLawful}
 use Rattle.layout.proofs.Sizes.{spans_size_block}
 use Rattle.layout.proofs.Heights.{low_block}

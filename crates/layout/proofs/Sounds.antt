@@ -1,7 +1,7 @@
 -- What is read of a body keeps the limits, and is laid out as the bytes are.
-use Rattle.std.proofs.Common.{◌≡◌, ℕ, zero, suc, ◌+◌, ◌*◌, ◌<◌, ◌≤◌, Bool, true, false, cond, ltb, leb, List, [], ◌∷◌, ◌++◌, length, sym, refl, ap, ◌∙◌, subst, arith}
+use Rattle.std.proofs.Common.{◌≡◌, ℕ, zero, suc, ◌+◌, ◌<◌, ◌≤◌, Bool, true, false, leb, List, [], ◌∷◌, ◌++◌, length, refl, ap, arith}
 use Rattle.std.proofs.lemmas.Bool.{leb-true}
-use Rattle.layout.specs.Tree.{Choice, when_place, try_frame, Command, plain_command, choose_block, loop_block, grant_block, call_procedure, Commands, no_commands, then_command, Block, numbered_block}
+use Rattle.layout.specs.Tree.{Choice, when_place, try_frame, Command, Commands, Block}
 use Rattle.layout.specs.Bytes.{Bytes, two}
 use Rattle.layout.specs.Layout.{Flat, plain, choose, loop, grant, call, choice_bytes, command_bytes, flat, encode_commands, encode_block, choice_head, loop_head, grant_head}
 use Rattle.layout.specs.Folds.{size, size_commands, size_block}

@@ -1,8 +1,8 @@
 -- What is added up over a tree: blocks, most steps, the highest call.
 use Rattle.std.specs.Prelude.{ℕ, ◌+◌, ◌*◌, max, List, [], ◌∷◌, ◌++◌, length, slice_index}
 use Rattle.layout.specs.declared.Span.{Span}
-use Rattle.layout.specs.Tree.{Plain, Choice, Command, plain_command, choose_block, loop_block, grant_block, call_procedure, Commands, no_commands, then_command, Block, numbered_block}
-use Rattle.layout.specs.Layout.{Flat, command_bytes, flat, encode_block, choice_head, loop_head, grant_head}
+use Rattle.layout.specs.Tree.{Command, plain_command, choose_block, loop_block, grant_block, call_procedure, Commands, no_commands, then_command, Block, numbered_block}
+use Rattle.layout.specs.Layout.{command_bytes, flat, encode_block, choice_head, loop_head, grant_head}
 
 -- how many blocks: in a command, in a sequence, and in a block with itself
 abbrev mutual

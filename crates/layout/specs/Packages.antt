@@ -1,10 +1,6 @@
 -- A package: declarations in a row, each under those before it. Its layout, its limits, and how it is read.
 use Rattle.std.specs.Prelude.{◌≡◌, ℕ, zero, suc, ◌+◌, ◌≤◌, Bool, true, false, cond, not, ◌&&◌, List, [], ◌∷◌, ◌++◌, length, drop, ◌==◌, nat_le, nat_lt, slice_index}
-use Rattle.layout.specs.declared.Input.{Input}
-use Rattle.layout.specs.declared.Cell.{Cell}
-use Rattle.layout.specs.declared.Table.{Table}
 use Rattle.layout.specs.Bytes.{be16, be32, be64}
-use Rattle.layout.specs.Layout.{encode_block}
 use Rattle.layout.specs.Folds.{most_block}
 use Rattle.layout.specs.Limits.{Sound}
 use Rattle.layout.specs.Front.{Front, got, bad, need, cut}

@@ -1,5 +1,5 @@
 -- What an accepted package says: its declarations added up, and the bodies of its procedures.
-use Rattle.std.specs.Prelude.{ℕ, List, length, slice_index_or}
+use Rattle.std.specs.Prelude.{ℕ, List, slice_index_or}
 use Rattle.layout.specs.declared.Table.{Table}
 use Rattle.layout.specs.Tree.{no_commands, Block, numbered_block}
 use Rattle.layout.specs.Declarations.{Declaration, Contents}

@@ -1,6 +1,6 @@
 -- What the commands of a body may name, and the test of each rule that a command keeps.
 use Rattle.std.specs.Prelude.{ℕ, Bool, true, not, ◌&&◌, List, length, ◌==◌, nat_le, nat_lt, slice_index}
-use Rattle.layout.specs.Tree.{Plain, set_place, copy_place, combine_places, pick_cell, put_cell, drive_device, Choice, asked}
+use Rattle.layout.specs.Tree.{Plain, set_place, copy_place, combine_places, pick_cell, put_cell, drive_device, asked}
 use Rattle.layout.specs.Layout.{Flat, plain, choose, loop, grant, call}
 
 -- how many places, tables and devices are declared; the places below `inputs` are inputs;

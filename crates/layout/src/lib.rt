@@ -1,4 +1,6 @@
 // What the bytes of a rule package mean: the declared things, the tree of commands, the layout and the limits.
+#![tactic(auto)]
+
 ghost use Rattle.layout.specs.Accepted.{AcceptedLawful};
 ghost use Rattle.layout.specs.Law.{AcceptedExactly};
 

@@ -1,13 +1,13 @@
 -- The listing of a block so far, and one command more.
-use Rattle.std.proofs.Common.{◌≡◌, ℕ, ◌+◌, ◌-◌, ◌<◌, ◌≤◌, min, List, [], ◌∷◌, ◌++◌, length, get_or, sym, refl, ap, ◌∙◌, subst, append_assoc, append-nil, arith, length-append, w8, Fits}
+use Rattle.std.proofs.Common.{◌≡◌, ℕ, ◌+◌, ◌-◌, ◌≤◌, min, List, [], ◌∷◌, ◌++◌, length, get_or, sym, refl, ap, ◌∙◌, append_assoc, append-nil, arith, w8, Fits}
 use Rattle.std.proofs.lemmas.Bool.{ltb-true}
-use Rattle.layout.specs.Tree.{Plain, Choice, when_place, try_frame, Command, plain_command, choose_block, loop_block, grant_block, call_procedure, Commands, no_commands, then_command, Block, numbered_block}
+use Rattle.layout.specs.Tree.{Plain, Choice, Command, plain_command, choose_block, loop_block, grant_block, call_procedure, Commands, no_commands, then_command, numbered_block}
 use Rattle.layout.specs.Bytes.{Bytes}
 use Rattle.layout.specs.Layout.{Flat, plain, choose, loop, grant, call, command_bytes, flat, encode_commands, encode_block, choice_head, loop_head, grant_head}
-use Rattle.layout.specs.Folds.{size, size_commands, size_block}
+use Rattle.layout.specs.Folds.{size, size_commands}
 use Rattle.layout.specs.Scope.{Scope}
-use Rattle.layout.specs.Limits.{Keeps, KeepsCommands, KeepsBlock}
-use Rattle.layout.specs.Front.{Front, got, bad, front}
+use Rattle.layout.specs.Limits.{KeepsCommands}
+use Rattle.layout.specs.Front.{got, bad, front}
 use Rattle.layout.proofs.Fronts.{front_of}
 use Rattle.layout.proofs.Completes.{choice_length}
 use Rattle.package.proofs.Turns.{bytes_all, took_off}
@@ -15,7 +15,7 @@ use Rattle.listing.specs.declared.lines.Line.{Line}
 use Rattle.listing.specs.declared.lines.Line.TheVariants as line
 use Rattle.listing.specs.declared.lines.Role.{Role}
 use Rattle.listing.specs.declared.lines.Role.TheVariants.{First, Second, Turn, Granted}
-use Rattle.listing.specs.Bodies.{tell, tell_choice, part_lines, sequence_lines, block_lines, command_lines, TellsBlock, TellsAll, TellsOne, TellsTwo}
+use Rattle.listing.specs.Bodies.{tell, part_lines, sequence_lines, block_lines, command_lines, TellsBlock, TellsAll, TellsOne, TellsTwo}
 
 -- of the commands cs, ts are left
 pub record Left (i d : ℕ) (w : Scope) (cs : Commands) (at n last : ℕ) (before : List Line) (rest : List ℕ) (off next : ℕ) (cur : List Line) : Type 0 where

@@ -13,7 +13,7 @@ use Rattle.commands.specs.declared.Plain.TheVariants.{Set, Copy, Combine, Pick, 
 use Rattle.listing.specs.declared.lines.Action.{Action}
 use Rattle.listing.specs.declared.lines.Action.TheVariants as action
 use Rattle.listing.specs.declared.lines.Role.{Role}
-use Rattle.listing.specs.declared.lines.Role.TheVariants.{Body, First, Second, Turn, Granted}
+use Rattle.listing.specs.declared.lines.Role.TheVariants.{First, Second, Turn, Granted}
 use Rattle.listing.specs.declared.lines.Line.{Line}
 use Rattle.listing.specs.declared.lines.Line.TheVariants as line
 

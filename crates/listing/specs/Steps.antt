@@ -1,5 +1,5 @@
 -- The steps that are told of an accepted package.
-use Rattle.std.specs.Prelude.{ℕ, List, [], ◌∷◌, ◌++◌, length}
+use Rattle.std.specs.Prelude.{List, [], ◌∷◌, ◌++◌, length}
 use Rattle.layout.specs.declared.Procedure.{Procedure}
 use Rattle.layout.specs.Declarations.{Contents}
 use Rattle.listing.specs.Numbered.{numbered}

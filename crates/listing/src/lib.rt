@@ -1,4 +1,6 @@
 // What a package holds, line by line, and why it is refused.
+#![tactic(auto)]
+
 ghost use Rattle.std.specs.Prelude.{◌≡◌, ◌++◌, IfOk, OnOk};
 ghost use Rattle.layout.specs.Accepted.{bodies as bodies_of};
 ghost use Rattle.layout.specs.Packages.{contents as contents_of};

@@ -1,4 +1,6 @@
 // The laws of write oracles, and the smallest sets that keep them.
+#![tactic(auto)]
+
 ghost use Rattle.oracle_laws.specs.Sets.{BroadLawful};
 ghost use Rattle.oracle_laws.specs.Smallest.{SmallestLawful, SmallestLeast};
 

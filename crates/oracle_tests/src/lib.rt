@@ -1,3 +1,5 @@
+#![tactic(auto)]
+
 // Tests of the write oracles.
 #[cfg(test)]
 mod tests {

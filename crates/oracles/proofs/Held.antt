@@ -1,5 +1,5 @@
 -- What a package holds, and what its declarations say.
-use Rattle.std.proofs.Common.{◌≡◌, ℕ, ◌+◌, ◌<◌, ◌≤◌, Bool, false, ◌&&◌, ltb, leb, ◌⊎◌, List, [], length, get_or, take, drop, vec_items, sym, refl, ap, ◌∙◌, ⊎_elim, arith, length-drop, length-take}
+use Rattle.std.proofs.Common.{◌≡◌, ℕ, ◌+◌, ◌<◌, ◌≤◌, Bool, false, ◌&&◌, ltb, leb, List, [], length, get_or, take, drop, vec_items, sym, refl, ap, ◌∙◌, ⊎_elim, arith, length-drop, length-take}
 use Rattle.std.proofs.lemmas.List.{get_or_past, get_or_default}
 use Rattle.std.proofs.lemmas.Bool.{cases_lt, and_right, le-ltb, le-leb, lt-leb}
 use Rattle.layout.specs.declared.Procedure.{Procedure}

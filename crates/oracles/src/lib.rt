@@ -1,4 +1,6 @@
 // Write oracles: which places a block may write.
+#![tactic(auto)]
+
 ghost use Rattle.std.specs.Prelude.{◌≡◌, ℕ, IfOk};
 ghost use Rattle.layout.specs.Program.{Program, program};
 ghost use Rattle.package.specs.Loads.{tree_of};

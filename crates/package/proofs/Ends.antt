@@ -1,5 +1,5 @@
 -- What loading answers, from what is read.
-use Rattle.std.proofs.Common.{◌≡◌, ℕ, ◌+◌, ◌<◌, ◌≤◌, Bool, true, false, leb, List, length, get_or, sym, refl, ap, ◌∙◌, subst, arith, w8, Fits}
+use Rattle.std.proofs.Common.{◌≡◌, ℕ, ◌+◌, ◌<◌, ◌≤◌, true, leb, List, length, get_or, sym, ap, ◌∙◌, subst, arith, w8, Fits}
 use Rattle.std.proofs.lemmas.Bool.{le-leb, lt-leb, cond-false}
 use Rattle.layout.specs.Reading.{Got, ok, fault}
 use Rattle.layout.specs.Declarations.{Declaration, Contents, nothing}
@@ -9,7 +9,7 @@ use Rattle.layout.specs.Accepted.{bodies, Lawful}
 use Rattle.layout.proofs.Accepts.{accepted_exactly_lem, accepts_read}
 use Rattle.layout.proofs.Lawful.{accepted_lawful_lem}
 use Rattle.package.specs.declared.refusal.Refusal.{Refusal}
-use Rattle.package.specs.Holds.{number, offset, Refused}
+use Rattle.package.specs.Holds.{number, Refused}
 use Rattle.package.proofs.Turns.{bytes_all}
 
 module _ (bs : List ℕ) (small : (i : ℕ) → Fits w8 (get_or bs i 0)) where

@@ -1,13 +1,13 @@
 -- The reading of a package so far, and one declaration more.
-use Rattle.std.proofs.Common.{◌≡◌, ℕ, zero, suc, ◌+◌, ◌-◌, ◌<◌, ◌≤◌, List, [], ◌∷◌, ◌++◌, length, get_or, sym, refl, ap, ◌∙◌, subst, append_assoc, append-nil, arith, length-append, w8, Fits}
+use Rattle.std.proofs.Common.{◌≡◌, ℕ, zero, suc, ◌+◌, ◌≤◌, List, [], ◌∷◌, ◌++◌, length, get_or, sym, refl, ap, ◌∙◌, subst, append_assoc, append-nil, arith, length-append, w8, Fits}
 use Rattle.layout.specs.Bytes.{Bytes}
-use Rattle.layout.specs.Front.{Front, got, bad}
+use Rattle.layout.specs.Front.{got}
 use Rattle.layout.specs.Reading.{Got, ok, fault, and_then}
-use Rattle.layout.specs.Declarations.{Declaration, Item, item_bytes, item, lead, Contents, nothing, declare}
+use Rattle.layout.specs.Declarations.{Declaration, Item, item_bytes, lead, Contents, nothing}
 use Rattle.layout.specs.Packages.{contents_from, contents, by_lead, declaration, next_item, read_all}
 use Rattle.layout.proofs.Numbers.{bytes_right}
 use Rattle.layout.proofs.Fronts.{True}
-use Rattle.layout.proofs.Items.{lead_true, led, rest}
+use Rattle.layout.proofs.Items.{lead_true, led}
 use Rattle.package.specs.declared.refusal.Refusal.{Refusal}
 use Rattle.package.specs.Holds.{number, offset, Refused}
 use Rattle.package.specs.Items.{Fronted}

@@ -1,11 +1,11 @@
 -- What stands at the front of a package, by its first byte.
-use Rattle.std.proofs.Common.{◌≡◌, ℕ, suc, ◌+◌, ◌<◌, ◌≤◌, Bool, true, false, cond, eqb, leb, List, [], ◌∷◌, ◌++◌, length, get_or, drop, Some, None, Option, sym, refl, ap, ◌∙◌, subst, arith, w8, Fits, Bor}
-use Rattle.std.proofs.lemmas.Bool.{cond_both, cond-true, cond-false, eqb-true, eqb-false, eq-eqb, ne_eqb, leb-true, le-leb, lt-leb, and_parts}
+use Rattle.std.proofs.Common.{◌≡◌, ℕ, suc, ◌+◌, ◌<◌, ◌≤◌, true, false, leb, List, [], ◌∷◌, ◌++◌, length, get_or, drop, Some, None, Option, refl, ap, ◌∙◌, subst, arith, w8, Fits, Bor}
+use Rattle.std.proofs.lemmas.Bool.{cond-false, ne_eqb, leb-true, le-leb, lt-leb, and_parts}
 use Rattle.layout.specs.Bytes.{be16}
 use Rattle.layout.specs.Front.{Front, got, bad, cut}
-use Rattle.layout.specs.Reading.{Got, ok, fault, demand}
+use Rattle.layout.specs.Reading.{ok, fault}
 use Rattle.layout.specs.Declarations.{Item, proc, Contents, lead, item_bytes}
-use Rattle.layout.specs.Packages.{proc_at, by_lead, finish, next_item, leads, read_all}
+use Rattle.layout.specs.Packages.{proc_at, by_lead, next_item, leads, read_all}
 use Rattle.layout.proofs.Fronts.{True}
 use Rattle.layout.proofs.Completes.{passes}
 use Rattle.layout.proofs.Items.{lead_true, led, rest}

@@ -1,5 +1,5 @@
 -- What every package keeps. What has been declared is a set, so that the fact of it can be taken out again.
-use Rattle.std.proofs.Common.{◌≡◌, ℕ, List, vec_items, sym, refl, ap, ◌∙◌, subst}
+use Rattle.std.proofs.Common.{◌≡◌, ℕ, List, vec_items, ap, subst}
 use mathlib.Core.Logic.{∥∥₁_elim}
 use base.Stored.{Coded, Coded-set, coded_ℕ, coded_list, coded×}
 use Rattle.layout.specs.declared.Input.{Input}

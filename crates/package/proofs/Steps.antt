@@ -1,20 +1,20 @@
 -- What each command comes to, from what its blocks come to.
-use Rattle.std.proofs.Common.{◌≡◌, ℕ, zero, suc, ◌+◌, ◌-◌, ◌*◌, ◌<◌, ◌≤◌, min, max, List, [], ◌∷◌, ◌++◌, length, get_or, set, Ok, Err, Result, sym, refl, ap, ◌∙◌, subst, inl, inr, append_assoc, append-nil, arith, length-append}
+use Rattle.std.proofs.Common.{◌≡◌, ℕ, zero, suc, ◌+◌, ◌-◌, ◌*◌, ◌≤◌, max, List, [], ◌∷◌, ◌++◌, length, get_or, set, Ok, Err, Result, sym, refl, ap, ◌∙◌, inl, inr, append_assoc, append-nil, arith, length-append}
 use lib.Seq.{set-append_seam}
 use Rattle.std.proofs.lemmas.Bool.{cases_lt}
 use Rattle.layout.specs.declared.Span.{Span}
 use Rattle.layout.specs.Tree.{Plain, Choice, Command, plain_command, choose_block, loop_block, grant_block, call_procedure, Commands, Block, numbered_block}
-use Rattle.layout.specs.Layout.{Flat, plain, choose, loop, grant, call, command_bytes, flat, encode_block, choice_head, loop_head, grant_head}
-use Rattle.layout.specs.Folds.{size_commands, size_block, most_commands, most_block, spans_commands, spans_block, highest_block}
+use Rattle.layout.specs.Layout.{Flat, plain, choose, loop, grant, call, command_bytes, encode_block, choice_head, loop_head, grant_head}
+use Rattle.layout.specs.Folds.{size_commands, size_block, most_block, spans_commands, spans_block}
 use Rattle.layout.specs.Scope.{Scope, blocks}
 use Rattle.layout.specs.Limits.{Kept}
-use Rattle.layout.specs.Reading.{Got, ok, fault, and_then, checked, parts, one, read, inner, read_body}
+use Rattle.layout.specs.Reading.{Got, ok, and_then, checked, one, read, inner}
 use Rattle.layout.proofs.Completes.{goes, check_passes, choice_length}
 use Rattle.layout.proofs.Sizes.{spans_size_commands, spans_size_block}
 use Rattle.package.specs.declared.bodies.Cost.{Cost}
 use Rattle.package.specs.declared.refusal.Refusal.{Refusal}
-use Rattle.package.specs.Holds.{number, offset, Refused}
-use Rattle.package.specs.Walks.{capped, Walked, Stops, WalkedOne, WalksOne, WalkedAll, WalksAll, WalkedBlock, WalksBlock, WalkedBody, WalksBody}
+use Rattle.package.specs.Holds.{Refused}
+use Rattle.package.specs.Walks.{capped, Stops, WalkedOne, WalksOne, WalkedAll, WalkedBlock, WalksBlock, WalksBody}
 
 pub stops : {A B : Type 0} (g : Got A) (k : A → Got B) (e : Refusal) → Refused g e → Refused (and_then g k) e
 stops g k e h = λ n. let p = h n in rw p

@@ -1,10 +1,10 @@
 -- The reading of a block so far, and one command more.
-use Rattle.std.proofs.Common.{◌≡◌, ℕ, zero, suc, ◌+◌, ◌-◌, ◌<◌, ◌≤◌, min, max, List, [], ◌∷◌, ◌++◌, length, get_or, sym, refl, ap, ◌∙◌, subst, append_assoc, append-nil, arith, length-append, w8, Fits}
+use Rattle.std.proofs.Common.{◌≡◌, ℕ, zero, suc, ◌+◌, ◌≤◌, max, List, [], ◌∷◌, ◌++◌, length, get_or, sym, refl, ap, ◌∙◌, subst, append_assoc, append-nil, arith, length-append, w8, Fits}
 use Rattle.layout.specs.declared.Span.{Span}
-use Rattle.layout.specs.Tree.{Command, Commands, no_commands, then_command}
+use Rattle.layout.specs.Tree.{Commands, no_commands, then_command}
 use Rattle.layout.specs.Bytes.{Bytes}
-use Rattle.layout.specs.Layout.{Flat, command_bytes, flat, encode_commands}
-use Rattle.layout.specs.Folds.{size, size_commands, most, most_commands, highest, highest_commands, spans, spans_commands}
+use Rattle.layout.specs.Layout.{Flat, command_bytes, encode_commands}
+use Rattle.layout.specs.Folds.{size, most_commands, highest_commands, spans, spans_commands}
 use Rattle.layout.specs.Scope.{Scope}
 use Rattle.layout.specs.Front.{Front, got, bad, front}
 use Rattle.layout.specs.Reading.{Got, ok, fault, and_then, one, next, read, inner}
@@ -14,8 +14,8 @@ use Rattle.layout.proofs.Completes.{command_long, read_front}
 use Rattle.layout.proofs.Sizes.{spans_size}
 use Rattle.package.specs.declared.bodies.Cost.{Cost}
 use Rattle.package.specs.declared.refusal.Refusal.{Refusal}
-use Rattle.package.specs.Holds.{number, offset, Refused}
-use Rattle.package.specs.Walks.{capped, Walked, Stops, WalkedOne, WalkedAll}
+use Rattle.package.specs.Holds.{number, offset}
+use Rattle.package.specs.Walks.{capped, Stops, WalkedOne, WalkedAll}
 use Rattle.package.proofs.Steps.{stops, refused_as}
 
 and_ok : {A : Type 0} (g : Got A) → g ≡ and_then g (λ a. ok a)

@@ -1,9 +1,8 @@
 -- What one declaration more adds to what has been declared.
-use Rattle.std.specs.Prelude.{◌≡◌, ℕ, ◌+◌, true, List, vec_items, Result, MatchResult}
-use Rattle.layout.specs.Tree.{Block}
-use Rattle.layout.specs.Reading.{Got, ok, fault}
+use Rattle.std.specs.Prelude.{◌≡◌, ℕ, true, vec_items, Result, MatchResult}
+use Rattle.layout.specs.Reading.{ok, fault}
 use Rattle.layout.specs.Declarations as layout
-use Rattle.layout.specs.Packages.{room, known, filled, bodied, brief, declaration}
+use Rattle.layout.specs.Packages.{room, known, filled, declaration}
 use Rattle.package.specs.declared.contents.Contents.{Contents}
 use Rattle.package.specs.declared.refusal.Refusal.{Refusal}
 use Rattle.package.specs.Holds.{number, offset, Refused}

@@ -1,11 +1,11 @@
 -- What the code's values stand for.
-use Rattle.std.specs.Prelude.{◌≡◌, ℕ, ◌+◌, ◌≤◌, min, List, [], ◌∷◌, ◌++◌, length, Result, MatchResult, ◌≢◌}
+use Rattle.std.specs.Prelude.{◌≡◌, ℕ, ◌+◌, ◌≤◌, Result, MatchResult, ◌≢◌}
 use Rattle.layout.specs.Tree.{Command}
 use Rattle.layout.specs.Layout.{Flat}
 use Rattle.layout.specs.Scope as layout
 use Rattle.layout.specs.Limits.{Kept}
 use Rattle.layout.specs.Declarations.{heights_of, steps_of}
-use Rattle.layout.specs.Reading.{Got, ok, fault, checked}
+use Rattle.layout.specs.Reading.{Got, fault, checked}
 use Rattle.package.specs.declared.bodies.Scope.{Scope}
 use Rattle.package.specs.declared.refusal.Refusal.{Refusal}
 use Rattle.package.specs.declared.refusal.Refusal.TheVariants as refusal

@@ -2,8 +2,8 @@
 use Rattle.std.specs.Prelude.{◌≡◌, ℕ, suc, ◌+◌, ◌≤◌, List, [], length, Option, Result, MatchOption, MatchResult, slice_index}
 use Rattle.std.specs.Borrow.{Bor}
 use Rattle.layout.specs.Front.{got, bad, cut}
-use Rattle.layout.specs.Reading.{Got, ok, fault}
-use Rattle.layout.specs.Declarations.{party_item, input_item, cell_item, table_item, device_item, entry_item, Item, simple, proc, item_bytes, lead, Contents}
+use Rattle.layout.specs.Reading.{ok, fault}
+use Rattle.layout.specs.Declarations.{party_item, input_item, cell_item, table_item, device_item, entry_item, Item, simple, proc, lead, Contents}
 use Rattle.layout.specs.Packages.{by_lead, next_item, read_all}
 use Rattle.package.specs.declared.declarations.Declaration.{Declaration}
 use Rattle.package.specs.declared.declarations.Declaration.TheVariants as declaration

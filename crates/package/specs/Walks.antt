@@ -1,7 +1,7 @@
 -- What the result of a walk says of the reading.
 use Rattle.std.specs.Prelude.{◌≡◌, ℕ, ◌+◌, ◌≤◌, min, List, ◌++◌, length, Result, MatchResult}
 use Rattle.layout.specs.declared.Span.{Span}
-use Rattle.layout.specs.Tree.{Command, Commands, Block}
+use Rattle.layout.specs.Tree.{Block}
 use Rattle.layout.specs.Layout.{Flat, command_bytes, flat, encode_commands, encode_block}
 use Rattle.layout.specs.Folds.{most, most_commands, most_block, highest, highest_commands, highest_block, spans, spans_commands, spans_block}
 use Rattle.layout.specs.Scope.{Scope}

@@ -1,4 +1,6 @@
 // Rule packages, loaded or refused.
+#![tactic(auto)]
+
 ghost use Rattle.std.specs.Prelude.{◌≡◌, ℕ, ◌+◌, ◌≤◌, length};
 ghost use Rattle.package.specs.Loads.{Loads, Exactly, Keeping, ReadsContents};
 

@@ -1,5 +1,7 @@
 // Loads packages, right and wrong, and compares what comes with what should come.
 // A case on standard input is its name, the package's bytes in hexadecimal, and the answer that loading has to give.
+#![tactic(auto)]
+
 use comparison::compare_all;
 use std::io;
 use std::io::Read;

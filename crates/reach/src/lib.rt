@@ -1,4 +1,6 @@
 // What a frame lets its holder do, and what a block may write, as lists.
+#![tactic(auto)]
+
 ghost use Rattle.std.specs.Prelude.{◌≡◌, IfOk};
 ghost use Rattle.reach.specs.Passing.{passing};
 

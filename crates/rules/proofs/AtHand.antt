@@ -1,5 +1,5 @@
 -- Both frame kinds and both write oracles keep their laws.
-use Rattle.std.proofs.Common.{◌≡◌, ℕ, ◌≤◌, max, ◌&&◌, arith}
+use Rattle.std.proofs.Common.{max, arith}
 use Rattle.std.proofs.lemmas.Bool.{and_from, and_left, lt-ltb, le-ltb}
 use Rattle.std.proofs.lemmas.Bool.Decides.{nat_tests}
 use Rattle.frames.specs.Kinds.{Lawful, Widens}

@@ -6,7 +6,7 @@ use Rattle.std.proofs.lemmas.List.{length-set, get_or-set_same, get_or-set_other
 use Rattle.std.proofs.lemmas.Bool.{lt-ltb, eq-eqb, ne_eqb, cases_eq, not-true, cond-true, cond-false, false≢true}
 use Rattle.layout.specs.declared.Table.{Table}
 use Rattle.layout.specs.Tree.{Plain, set_place, copy_place, combine_places, pick_cell, put_cell, drive_device, plain_command}
-use Rattle.layout.specs.Declarations.{Declaration, places}
+use Rattle.layout.specs.Declarations.{Declaration}
 use Rattle.layout.specs.Packages.{Keeps}
 use Rattle.layout.specs.Program.{Program, program, table}
 use Rattle.oracle_laws.specs.Sets.{cell_of}

@@ -1,6 +1,6 @@
 -- Agreement of two controllers: what shows where right q is needed, and what is read in the name of q, tells nothing of
 -- the posts of parties without q.
-use Rattle.std.specs.Prelude.{◌≡◌, ℕ, ◌<◌, Bool, true, false, cond, not, ◌&&◌, List, [], ◌∷◌, Some, None, Option, Result, ◌==◌}
+use Rattle.std.specs.Prelude.{◌≡◌, ℕ, ◌<◌, Bool, false, cond, not, ◌&&◌, List, [], ◌∷◌, Some, None, Option, Result, ◌==◌}
 use Rattle.layout.specs.Declarations.{Declaration}
 use Rattle.layout.specs.Packages.{Keeps}
 use Rattle.layout.specs.Program.{Program, program}

@@ -1,5 +1,5 @@
 -- What a new controller holds, and what each call answers and leaves.
-use Rattle.std.specs.Prelude.{ℕ, Bool, true, false, cond, ◌&&◌, List, [], ◌∷◌, ◌++◌, map, length, get_or, is_ok, Some, None, Ok, Err, Option, Result, ◌==◌, nat_lt, slice_index, slice_index_or, slice_set}
+use Rattle.std.specs.Prelude.{ℕ, Bool, cond, ◌&&◌, List, [], ◌∷◌, ◌++◌, map, length, get_or, is_ok, None, Ok, Err, Option, Result, ◌==◌, nat_lt, slice_index, slice_index_or, slice_set}
 use Rattle.layout.specs.declared.Input.{Input}
 use Rattle.layout.specs.declared.Cell.{Cell}
 use Rattle.layout.specs.Declarations.{places}

@@ -1,5 +1,5 @@
 -- Eight small runs of the rules, worked out by hand.
-use Rattle.std.specs.Prelude.{◌≡◌, ℕ, true, List, [], ◌∷◌, map, length, set, Some, None, Option, slice_set}
+use Rattle.std.specs.Prelude.{◌≡◌, ℕ, true, List, [], ◌∷◌, map, length, Some, None, Option, slice_set}
 use Rattle.frames.specs.Kinds.{gap}
 use Rattle.frames.specs.Rights.{rights}
 use Rattle.frames.specs.Levels.{levels}

@@ -1,4 +1,6 @@
 // The written rules: what each command, a cycle and each call do, and what holds of every run.
+#![tactic(auto)]
+
 pub mod theorems;
 
 // What a place holds: a value, and the frame of everyone who had a hand in it.

@@ -1,4 +1,6 @@
 // The text of listings, steps and refusals.
+#![tactic(auto)]
+
 pub mod excerpts;
 pub mod lines;
 pub mod reach;

@@ -1,3 +1,5 @@
+#![tactic(auto)]
+
 // Tests of the text of listings and refusals.
 #[cfg(test)]
 mod tests {

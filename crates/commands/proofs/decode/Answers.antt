@@ -1,4 +1,4 @@
-use Rattle.std.proofs.Common.{◌≡◌, ℕ, ◌<◌, ◌≤◌, sym, refl, ap, ◌∙◌, arith, rules}
+use Rattle.std.proofs.Common.{◌∙◌, arith, rules}
 use Rattle.commands.proofs.Rest.{rest_all, front_at, short_block, some_byte, call_got, loop_got, grant_got, when_got, try_got, reads_as}
 use Rattle.commands.proofs.decode.Goals as goal
 

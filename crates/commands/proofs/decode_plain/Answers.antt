@@ -1,4 +1,4 @@
-use Rattle.std.proofs.Common.{◌≡◌, ℕ, ◌<◌, ◌≤◌, sym, refl, ap, ◌∙◌, arith, rules}
+use Rattle.std.proofs.Common.{◌∙◌, rules}
 use Rattle.layout.specs.Tree.{add, sub, less, same, bits, copy_place, combine_places, pick_cell, put_cell, drive_device}
 use Rattle.commands.proofs.Rest.{rest_all, front_none, front_at, front_unknown, short_plain, set_got, pair_got, triple_got, told_as}
 use Rattle.commands.proofs.decode_plain.Goals as goal

@@ -1,4 +1,4 @@
-use Rattle.std.proofs.Common.{◌≡◌, Bool, true, not, sym, refl, ap, ◌∙◌}
+use Rattle.std.proofs.Common.{sym, ◌∙◌}
 use Rattle.frames.specs.Gaps.{gap_none, gap_covers, none_of, of_none}
 use Rattle.frames.proofs.covers.Goals as goal
 

@@ -1,10 +1,9 @@
-use Rattle.std.proofs.Common.{◌≡◌, ℕ, true, List, vec_items, sym, refl, ap, ◌∙◌, subst, arith}
+use Rattle.std.proofs.Common.{◌≡◌, ℕ, List, vec_items, sym, ap, ◌∙◌, subst, arith}
 use Rattle.std.proofs.lemmas.Result.{err_from_is_err_and}
 use Rattle.layout.specs.Bytes.{are_bytes}
 use Rattle.layout.specs.Reading.{ok}
-use Rattle.layout.specs.Packages.{Keeps, encode, read_package, accepts, declarations, held}
+use Rattle.layout.specs.Packages.{Keeps, encode, accepts, declarations, held}
 use Rattle.layout.proofs.Numbers.{bytes_test}
-use Rattle.package.specs.Declares.{contents_of}
 use Rattle.package.proofs.Turns.{bytes_all}
 use Rattle.package.proofs.Ends.{refused_exactly, refused_read, accepted, read_as, keeps, held_all, lawful_bytes}
 use Rattle.package.proofs.load.Goals as goal

@@ -1,10 +1,9 @@
-use Rattle.std.proofs.Common.{◌≡◌, ℕ, ◌+◌, List, [], ◌∷◌, ◌++◌, length, vec_items, sym, refl, ap, ◌∙◌, arith, length-append, rules}
+use Rattle.std.proofs.Common.{◌≡◌, [], ◌∷◌, ◌++◌, length, vec_items, ap, ◌∙◌, arith, length-append, rules}
 use Rattle.std.proofs.lemmas.Result.{IfOk-weaker}
 use Rattle.layout.specs.Tree.{when_place, try_frame}
 use Rattle.layout.specs.Layout.{Flat, command_bytes}
 use Rattle.commands.specs.Reads.{flat_of}
 use Rattle.listing.specs.declared.lines.Action.{Action}
-use Rattle.listing.specs.declared.lines.Line.{Line}
 use Rattle.listing.specs.declared.lines.Line.TheVariants as line
 use Rattle.listing.proofs.Tells.{telling_start, telling_end, telling_on, off_bytes, block_tells, two_tell, plain_tells, call_tells, loop_tells, grant_tells, choice_tells}
 use Rattle.listing.proofs.bodies.+list_block_list_choice_list_command_list_commands.Goals as goal

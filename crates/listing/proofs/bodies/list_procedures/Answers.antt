@@ -1,4 +1,4 @@
-use Rattle.std.proofs.Common.{◌≡◌, sym, refl, ap, ◌∙◌, arith, rules}
+use Rattle.std.proofs.Common.{rules}
 use Rattle.listing.proofs.Procedures.{telling_start, telling_end, telling_on, first_rest}
 use Rattle.listing.proofs.bodies.list_procedures.Goals as goal
 

@@ -1,4 +1,4 @@
-use Rattle.std.proofs.Common.{◌≡◌, ◌≤◌, length, take, drop, sym, ap, ◌∙◌, arith, drop_of_length-le, take_all}
+use Rattle.std.proofs.Common.{◌≤◌, length, take, drop, sym, ap, ◌∙◌, arith, drop_of_length-le, take_all}
 use lib.Seq.{take-nil}
 use Rattle.listing.proofs.bodies.part.Goals as goal
 

@@ -1,4 +1,4 @@
-use Rattle.std.proofs.Common.{◌≡◌, List, [], ◌∷◌, ◌++◌, take, vec_items, sym, refl, ap, ◌∙◌, append-nil, arith, take_all}
+use Rattle.std.proofs.Common.{[], ◌∷◌, ◌++◌, vec_items, sym, ap, ◌∙◌, append-nil, arith, take_all}
 use Rattle.listing.specs.declared.lines.Line.{Line}
 use Rattle.listing.specs.Numbered.{numbered}
 use Rattle.listing.proofs.Numbering.{numbered_more}

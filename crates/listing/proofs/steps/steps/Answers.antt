@@ -1,4 +1,4 @@
-use Rattle.std.proofs.Common.{◌≡◌, ◌∙◌}
+use Rattle.std.proofs.Common.{◌∙◌}
 use Rattle.package.specs.Declares.{contents_of}
 use Rattle.listing.proofs.Joins.{steps_joined}
 use Rattle.listing.proofs.Told.{told}

@@ -1,4 +1,4 @@
-use Rattle.std.proofs.Common.{◌≡◌, ◌++◌, vec_items, sym, refl, ap, ◌∙◌, append-nil, arith, take_all}
+use Rattle.std.proofs.Common.{◌++◌, vec_items, sym, refl, ap, ◌∙◌, append-nil, arith, take_all}
 use Rattle.std.proofs.lemmas.List.{get_or_default}
 use Rattle.listing.specs.declared.steps.Step.TheVariants as step
 use Rattle.listing.specs.Numbered.{numbered}

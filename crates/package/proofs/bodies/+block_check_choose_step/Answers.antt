@@ -1,11 +1,9 @@
-use Rattle.std.proofs.Common.{◌≡◌, ℕ, ◌+◌, ◌-◌, ◌<◌, true, [], length, is_ok, Ok, Err, vec_items, vec_len, sym, refl, ap, ◌∙◌, subst, arith, length-append, rules, true-eqb, false-eqb}
+use Rattle.std.proofs.Common.{◌≡◌, true, [], length, is_ok, Ok, Err, vec_items, refl, ap, ◌∙◌, arith, length-append, rules, true-eqb}
 use Rattle.std.proofs.lemmas.Result.{err_from_is_err_and}
 use Rattle.std.proofs.lemmas.Bool.{cond-true, ltb-true}
 use Rattle.layout.specs.Tree.{when_place, try_frame}
 use Rattle.layout.specs.Layout.{Flat, command_bytes}
-use Rattle.commands.specs.declared.Command.{Command}
 use Rattle.commands.specs.Reads.{flat_of}
-use Rattle.package.specs.Holds.{scope_of}
 use Rattle.package.proofs.Steps.{decided, walked_grows, block_walked, block_stops, carry_walks, walked_plain, walked_call, walked_loop, stops_loop, walked_grant, stops_grant, stops_first, stops_second, walked_choose}
 use Rattle.package.proofs.Turns.{bytes_all, took_off, going_start, going_end, going_bad, going_stops, going_on}
 use Rattle.package.proofs.bodies.+block_check_choose_step.Goals as goal

@@ -1,9 +1,6 @@
-use Rattle.std.proofs.Common.{◌≡◌, ℕ, ◌+◌, get_or, sym, ap, ◌∙◌, arith}
+use Rattle.std.proofs.Common.{arith}
 use Rattle.layout.specs.declared.Procedure.{Procedure}
-use Rattle.layout.specs.Declarations.{steps_of}
 use Rattle.package.proofs.Mapped.{map_at, map_past}
-use Rattle.package.proofs.Steps.{body_walks}
-use Rattle.package.proofs.Turns.{going_on}
 use Rattle.package.proofs.bodies.call.Goals as goal
 
 pub returns-in-Some : goal.returns-in-Some

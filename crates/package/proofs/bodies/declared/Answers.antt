@@ -1,4 +1,4 @@
-use Rattle.std.proofs.Common.{◌≡◌, ℕ, ltb, sym, ap, ◌∙◌}
+use Rattle.std.proofs.Common.{sym, ap}
 use lib.ListN.{length-map}
 use Rattle.layout.specs.Layout.{Flat}
 use Rattle.layout.specs.Scope.{named}

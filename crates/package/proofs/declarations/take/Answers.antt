@@ -1,4 +1,4 @@
-use Rattle.std.proofs.Common.{◌≡◌, ℕ, ◌<◌, ◌≤◌, true, false, length, get_or, sym, ap, ◌∙◌, arith, rules}
+use Rattle.std.proofs.Common.{◌≡◌, ◌<◌, true, get_or, ap, ◌∙◌, arith, rules}
 use Rattle.layout.specs.Packages.{leads, next_item, read_all}
 use Rattle.package.proofs.Leads.{no_bytes, no_lead, falls, finished, after_finish, on_item, leads_least, leads_most, fronted}
 use Rattle.package.proofs.declarations.take.Goals as goal

@@ -1,4 +1,4 @@
-use Rattle.std.proofs.Common.{◌≡◌, ℕ, ◌<◌, vec_items, sym, refl, ap, ◌∙◌, arith}
+use Rattle.std.proofs.Common.{vec_items, refl, arith}
 use Rattle.std.proofs.lemmas.Bool.{ltb-true}
 use Rattle.layout.specs.declared.Procedure.{Procedure}
 use Rattle.layout.specs.Declarations.{simple_declaration, entry_item, simple}

@@ -1,4 +1,4 @@
-use Rattle.std.proofs.Common.{◌≡◌, ◌+◌, ◌<◌, length, sym, refl, ap, ◌∙◌, arith, Fits}
+use Rattle.std.proofs.Common.{length, sym, ap, ◌∙◌, arith}
 use Rattle.layout.specs.Declarations.{procedure_declaration, proc}
 use Rattle.package.specs.Declares.{contents_of}
 use Rattle.package.proofs.Adds.{low_body, brief_body, by_added, in_scope, with_procedure, same_procedure}

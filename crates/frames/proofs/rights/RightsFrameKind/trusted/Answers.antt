@@ -1,4 +1,4 @@
-use Rattle.std.proofs.Common.{ℕ, ◌/◌, ◌^◌, Bool, ◌&&◌, eqb, sym, ap, ◌∙◌}
+use Rattle.std.proofs.Common.{ℕ, ◌/◌, ◌^◌, eqb, sym, ap, ◌∙◌}
 use lib.Bits.{and_mask}
 use Rattle.frames.specs.RightGaps.{held_at}
 use Rattle.frames.proofs.rights.RightsFrameKind.trusted.Goals as goal
