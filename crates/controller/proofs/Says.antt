@@ -5,7 +5,6 @@ use Rattle.layout.specs.Declarations.{Contents}
 use Rattle.layout.specs.Program.{Program}
 use Rattle.package.specs.declared.contents.Contents as code
 use Rattle.package.specs.declared.held.Package.{Package}
-use Rattle.package.specs.Declares.{contents_of}
 use Rattle.package.proofs.Sets.{holds}
 use Rattle.running.specs.Parts.{declared_by}
 use Rattle.controller.specs.Holding.{says}

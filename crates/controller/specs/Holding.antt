@@ -1,5 +1,5 @@
 -- What a controller holds, as the rules have it.
-use Rattle.std.specs.Prelude.{◌≡◌, List, ℕ}
+use Rattle.std.specs.Prelude.{◌≡◌, ℕ}
 use Rattle.layout.specs.Program.{Program, program}
 use Rattle.package.specs.declared.held.Package.{Package}
 use Rattle.package.specs.Loads.{tree_of}

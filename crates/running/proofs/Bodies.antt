@@ -1,10 +1,10 @@
 -- Where the bodies of procedures lie.
-use Rattle.std.proofs.Common.{◌≡◌, ℕ, zero, suc, ◌+◌, ◌-◌, ◌<◌, ◌≤◌, min, List, [], ◌∷◌, ◌++◌, length, get_or, take, drop, sym, refl, ap, ◌∙◌, subst, arith, length-append, length-drop}
+use Rattle.std.proofs.Common.{◌≡◌, ℕ, zero, suc, ◌+◌, ◌-◌, ◌<◌, ◌≤◌, List, [], ◌∷◌, ◌++◌, length, get_or, take, drop, sym, refl, ap, ◌∙◌, subst, arith, length-append, length-drop}
 use lib.Seq.{drop-append_seam}
 use Rattle.std.proofs.lemmas.List.{get_or-take}
 use Rattle.layout.specs.declared.Procedure.{Procedure}
 use Rattle.layout.specs.declared.Span.{Span}
-use Rattle.layout.specs.Tree.{Commands, no_commands, Block, numbered_block}
+use Rattle.layout.specs.Tree.{Block, numbered_block}
 use Rattle.layout.specs.Layout.{encode_commands, encode_block}
 use Rattle.layout.specs.Folds.{size_block, highest_commands, highest_block, spans_block}
 use Rattle.layout.specs.Limits.{KeepsBlock}

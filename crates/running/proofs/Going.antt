@@ -1,12 +1,10 @@
 -- What the loop of an entry keeps.
-use Rattle.std.proofs.Common.{◌≡◌, ℕ, ◌+◌, ◌-◌, ◌*◌, ◌<◌, ◌≤◌, Bool, true, false, List, [], ◌∷◌, length, get_or, vec_items, vec_len, sym, refl, ap, ◌∙◌, subst, arith}
+use Rattle.std.proofs.Common.{◌≡◌, ℕ, ◌+◌, ◌-◌, ◌*◌, ◌<◌, ◌≤◌, Bool, true, false, List, [], ◌∷◌, length, get_or, vec_items, vec_len, sym, ap, ◌∙◌, subst, arith}
 use Rattle.layout.specs.Tree.{no_commands}
 use Rattle.layout.specs.Declarations.{Contents}
-use Rattle.layout.specs.Packages.{encode, contents}
 use Rattle.layout.specs.Accepted.{bodies, Lawful}
 use Rattle.layout.specs.Program.{Program, program, body}
 use Rattle.package.specs.declared.held.Package.{Package}
-use Rattle.package.specs.Declares.{contents_of}
 use Rattle.package.specs.Loads.{tree_of}
 use Rattle.package.proofs.Sets as accepted
 use Rattle.oracle_laws.specs.Blocks.{commands}
@@ -19,7 +17,7 @@ use Rattle.running.specs.Levels.{Run, running, above, left, body_level, turn_of}
 use Rattle.running.specs.Entries.{program_of, entry_run, CanRun}
 use Rattle.running.proofs.Stacks.{above_length}
 use Rattle.running.proofs.Bodies.{runs_commands, low, lay_body}
-use Rattle.running.proofs.Resuming.{Left, leaving, resumes, Fits, Leads}
+use Rattle.running.proofs.Resuming.{Left, leaving, Fits, Leads}
 use Rattle.running.proofs.Keeping.{keeps}
 use Rattle.running.proofs.Growing.{grows_goal, turn_falls}
 

@@ -1,6 +1,6 @@
 -- Steps and refused drives never fall, and each turn counts a step or leaves a block.
-use Rattle.std.proofs.Common.{◌≡◌, ℕ, zero, suc, ◌+◌, ◌*◌, ◌<◌, ◌≤◌, Bool, true, false, cond, eqb, ltb, List, [], ◌∷◌, length, sym, refl, ap, ◌∙◌, subst, arith}
-use Rattle.layout.specs.Tree.{Command, Commands, Block}
+use Rattle.std.proofs.Common.{ℕ, zero, suc, ◌+◌, ◌*◌, ◌<◌, ◌≤◌, eqb, ltb, List, [], ◌∷◌, length, subst, arith}
+use Rattle.layout.specs.Tree.{Command, Commands}
 use Rattle.layout.specs.Layout.{Flat}
 use Rattle.layout.specs.Layout as flat
 use Rattle.layout.specs.Front.{Front, got, bad, front}
@@ -9,7 +9,7 @@ use Rattle.layout.specs.Program.{Program, body}
 use Rattle.oracle_laws.proofs.Every.{always_all, always}
 use Rattle.rules.specs.declared.Context.{Context}
 use Rattle.rules.specs.Assembly.{Assembly}
-use Rattle.rules.specs.Running.{State, at, tick, lower, turns, run_commands, calls, run_entries}
+use Rattle.rules.specs.Running.{State, at, tick, run_commands, calls, run_entries}
 use Rattle.rules.proofs.Tests.{by_cond}
 use Rattle.rules.proofs.Steps.{rests_plain}
 use Rattle.rules.proofs.Runs.{Steady, keeps_turns, keeps_commands, keeps_calls, keeps_entries}
@@ -17,8 +17,7 @@ use Rattle.running.specs.declared.levels.Level.{Level}
 use Rattle.running.specs.declared.levels.Turns.{Turns}
 use Rattle.running.specs.declared.levels.Closing.{Closing}
 use Rattle.running.specs.declared.levels.Closing.TheVariants as closing
-use Rattle.running.specs.Parts.{named_for}
-use Rattle.running.specs.Levels.{Run, running, act, closed_loop, close, act_front, part_of, turn_of}
+use Rattle.running.specs.Levels.{Run, act, closed_loop, close, act_front, part_of, turn_of}
 use Rattle.running.proofs.Resuming.{Left, deciding, closes, finishes, resumes, Leads}
 
 pub record Grows (s t : State) : Type 0 where

@@ -1,10 +1,10 @@
 -- A turn keeps what is left to run leading to the goal.
-use Rattle.std.proofs.Common.{◌≡◌, ℕ, zero, suc, ◌+◌, ◌-◌, ◌*◌, ◌<◌, ◌≤◌, min, max, Bool, true, false, cond, ◌||◌, eqb, ltb, List, [], ◌∷◌, ◌++◌, length, get_or, take, drop, sym, refl, ap, ◌∙◌, subst, arith, length-take}
+use Rattle.std.proofs.Common.{◌≡◌, ℕ, zero, suc, ◌+◌, ◌-◌, ◌*◌, ◌<◌, ◌≤◌, Bool, true, false, cond, eqb, List, [], ◌∷◌, ◌++◌, length, get_or, take, sym, refl, ap, ◌∙◌, subst, arith, length-take}
 use lib.ListN.{length-map}
 use Rattle.std.proofs.lemmas.Bool.{ltb-true}
-use Rattle.layout.specs.Tree.{Plain, Choice, when_place, try_frame, asked, Command, plain_command, choose_block, loop_block, grant_block, call_procedure, Commands, no_commands, then_command, Block, numbered_block}
-use Rattle.layout.specs.Layout.{Flat, choose, command_bytes, flat, encode_commands, encode_block, choice_head, loop_head, grant_head}
-use Rattle.layout.specs.Folds.{size, size_commands, size_block, highest, highest_commands, highest_block, spans, spans_commands, spans_block}
+use Rattle.layout.specs.Tree.{Plain, Choice, asked, Command, plain_command, choose_block, loop_block, grant_block, call_procedure, Commands, no_commands, then_command, numbered_block}
+use Rattle.layout.specs.Layout.{choose, command_bytes, flat, encode_commands, choice_head, loop_head, grant_head}
+use Rattle.layout.specs.Folds.{size, size_block, highest, highest_commands, spans_block}
 use Rattle.layout.specs.Limits.{KeepsBlock}
 use Rattle.layout.specs.declared.Procedure.{Procedure}
 use Rattle.layout.specs.Front.{got}
@@ -17,14 +17,14 @@ use Rattle.oracle_laws.specs.Blocks.{commands}
 use Rattle.oracle_laws.proofs.Lying.{Laid, laid_front, laid_rest, laid_behind, choice_behind}
 use Rattle.rules.specs.declared.Context.{Context}
 use Rattle.rules.specs.Assembly.{Assembly}
-use Rattle.rules.specs.Running.{State, at, tick, told, under, granted, lower, takes, decide, turns, named, either, no_procedure, run_plain, run, run_commands, run_block, entering, calls}
+use Rattle.rules.specs.Running.{State, at, tick, told, under, granted, lower, takes, decide, turns, either, no_procedure, run_plain, run_commands, entering, calls}
 use Rattle.running.specs.declared.levels.Level.{Level}
 use Rattle.running.specs.declared.levels.Turns.{Turns}
 use Rattle.running.specs.declared.levels.Closing.{Closing}
 use Rattle.running.specs.declared.levels.Closing.TheVariants as closing
 use Rattle.running.specs.declared.lowering.Blocks.TheVariants.{One, Either}
 use Rattle.running.specs.Parts.{named_for}
-use Rattle.running.specs.Levels.{Run, running, capped, behind, onward, entered, chosen, act, learned, turn_level, closed_loop, close, turn_of}
+use Rattle.running.specs.Levels.{running, capped, behind, onward, entered, chosen, act, learned, turn_level, closed_loop, close, turn_of}
 use Rattle.running.proofs.Turning.{plain_any, turn_close, turn_front}
 use Rattle.running.proofs.Laying.{choice_length, Lay, lay_as, lay_command, lay_spans, lay_ends, lay_next, lay_front, lay_block, block_behind, lay_end}
 use Rattle.running.proofs.Bodies.{runs_commands, height_below, height_is, low, lay_body}

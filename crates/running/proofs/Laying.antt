@@ -1,18 +1,17 @@
 -- Where what is left of a block lies in a package.
-use Rattle.std.proofs.Common.{◌≡◌, ℕ, zero, suc, ◌+◌, ◌-◌, ◌<◌, ◌≤◌, min, max, List, [], ◌∷◌, ◌++◌, length, get_or, take, drop, sym, refl, ap, ◌∙◌, subst, add-zero, arith, length-append, get_or-drop}
+use Rattle.std.proofs.Common.{◌≡◌, ℕ, ◌+◌, ◌-◌, ◌<◌, ◌≤◌, List, [], ◌∷◌, length, get_or, take, drop, sym, refl, ap, ◌∙◌, subst, add-zero, arith, length-append, get_or-drop}
 use lib.Seq.{take-append_seam}
 use Rattle.layout.specs.declared.Span.{Span}
-use Rattle.layout.specs.Tree.{Choice, when_place, try_frame, Command, plain_command, choose_block, loop_block, grant_block, call_procedure, Commands, no_commands, then_command, Block, numbered_block}
-use Rattle.layout.specs.Layout.{Flat, choose, loop, grant, command_bytes, flat, encode_commands, encode_block, choice_head, loop_head, grant_head}
-use Rattle.layout.specs.Folds.{size, size_commands, size_block, highest, highest_commands, highest_block, spans, spans_commands, spans_block}
-use Rattle.layout.specs.Scope.{Scope}
-use Rattle.layout.specs.Limits.{Keeps, KeepsCommands, KeepsBlock}
+use Rattle.layout.specs.Tree.{Choice, when_place, try_frame, Command, Commands, no_commands, then_command, numbered_block}
+use Rattle.layout.specs.Layout.{choose, command_bytes, flat, encode_commands, choice_head}
+use Rattle.layout.specs.Folds.{size, size_commands, size_block, highest_commands, spans, spans_commands, spans_block}
+use Rattle.layout.specs.Limits.{KeepsCommands, KeepsBlock}
 use Rattle.layout.specs.Front.{front, got}
 use Rattle.layout.specs.Declarations.{Contents}
 use Rattle.layout.specs.Accepted.{below}
 use Rattle.layout.proofs.Fronts.{front_of}
-use Rattle.layout.proofs.Sizes.{spans_size, spans_size_block}
-use Rattle.oracle_laws.proofs.Lying.{Laid, laid_front, laid_rest, laid_behind, choice_behind}
+use Rattle.layout.proofs.Sizes.{spans_size}
+use Rattle.oracle_laws.proofs.Lying.{Laid, laid_front, laid_rest}
 use Rattle.running.specs.Levels.{capped, no_span, behind}
 
 -- the n-th of what stands at n is the first of it

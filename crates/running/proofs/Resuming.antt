@@ -1,14 +1,12 @@
 -- What is left to run: the stack as trees, and what they come to.
-use Rattle.std.proofs.Common.{◌≡◌, ℕ, zero, suc, ◌+◌, ◌-◌, ◌*◌, ◌<◌, ◌≤◌, min, max, Bool, true, false, cond, ◌||◌, eqb, ltb, ◌≢◌, List, [], ◌∷◌, ◌++◌, length, get_or, take, drop, sym, refl, ap, ◌∙◌, subst, arith}
+use Rattle.std.proofs.Common.{◌≡◌, ℕ, zero, suc, ◌+◌, ◌-◌, ◌*◌, ◌<◌, ◌≤◌, Bool, true, false, cond, eqb, ◌≢◌, List, [], ◌∷◌, length, sym, refl, ap, arith}
 use Rattle.std.proofs.lemmas.Bool.{eqb-true, eqb-false}
-use Rattle.layout.specs.Tree.{Commands, no_commands, Block, numbered_block}
-use Rattle.layout.specs.Declarations.{Contents}
+use Rattle.layout.specs.Tree.{Commands}
 use Rattle.layout.specs.Program.{Program, body}
 use Rattle.rules.specs.declared.Context.{Context}
 use Rattle.rules.specs.Assembly.{Assembly}
 use Rattle.rules.specs.Running.{State, lower, turns, run_commands, run_block, entering, calls}
 use Rattle.running.specs.declared.levels.Level.{Level}
-use Rattle.running.specs.declared.levels.Turns.{Turns}
 use Rattle.running.specs.declared.levels.Closing.{Closing}
 use Rattle.running.specs.declared.levels.Closing.TheVariants as closing
 use Rattle.running.specs.declared.lowering.Blocks.TheVariants.{One, Either}

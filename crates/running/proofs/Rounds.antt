@@ -1,15 +1,14 @@
 -- The entries of a cycle, one after the other.
-use Rattle.std.proofs.Common.{◌≡◌, ℕ, suc, ◌+◌, ◌<◌, ◌≤◌, List, [], ◌∷◌, length, get_or, drop, sym, refl, ap, ◌∙◌, subst, add-one, arith, drop_of_length-le, drop-cons}
+use Rattle.std.proofs.Common.{◌≡◌, ℕ, suc, ◌+◌, ◌<◌, ◌≤◌, List, length, get_or, drop, sym, ap, ◌∙◌, subst, add-one, arith, drop_of_length-le, drop-cons}
 use Rattle.std.specs.List.{AllByRecursion as All}
 use Rattle.std.proofs.ByRecursion.{All-get_or}
-use Rattle.layout.specs.Program.{Program, program}
+use Rattle.layout.specs.Program.{Program}
 use Rattle.package.specs.declared.held.Package.{Package}
 use Rattle.package.specs.Loads.{tree_of}
 use Rattle.package.proofs.Sets as accepted
 use Rattle.rules.specs.Assembly.{Assembly}
 use Rattle.rules.specs.Running.{State, tick, run_entries}
 use Rattle.rules.specs.Calls.{Held, started, cycle}
-use Rattle.rules.specs.Bounds.{Bounded}
 use Rattle.rules.proofs.Steps.{cycle_bounded_lem}
 use Rattle.running.specs.Entries.{program_of, entry_run, CanRun}
 use Rattle.running.proofs.Growing.{grows_entries}

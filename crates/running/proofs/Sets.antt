@@ -1,5 +1,5 @@
 -- A list that is made one element after the other.
-use Rattle.std.proofs.Common.{◌≡◌, ℕ, ◌+◌, ◌<◌, ◌≤◌, List, [], ◌∷◌, ◌++◌, map, length, get_or, take, None, sym, refl, ap, ◌∙◌, append_assoc, append-nil, arith, length-append, take_all}
+use Rattle.std.proofs.Common.{◌≡◌, ℕ, ◌+◌, ◌<◌, ◌≤◌, List, [], ◌∷◌, ◌++◌, map, length, get_or, take, None, sym, ap, ◌∙◌, append_assoc, append-nil, length-append, take_all}
 use lib.ListN.{length-map}
 use Rattle.layout.specs.Declarations.{places}
 use Rattle.layout.specs.Program.{Program}

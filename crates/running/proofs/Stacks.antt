@@ -1,5 +1,5 @@
 -- The blocks on a stack, as a list.
-use Rattle.std.proofs.Common.{◌≡◌, ℕ, ◌+◌, List, [], ◌∷◌, ◌++◌, reverse, length, Some, None, vec_items, vec_len, Option, sym, refl, ap, ◌∙◌, arith, MatchOption}
+use Rattle.std.proofs.Common.{◌≡◌, ◌+◌, List, [], ◌∷◌, ◌++◌, reverse, length, Some, None, vec_items, vec_len, Option, sym, refl, ap, ◌∙◌, arith, MatchOption}
 use Rattle.std.specs.Option.{option_to_list}
 use Rattle.std.proofs.lemmas.List.{reverse-append, length-reverse}
 use Rattle.running.specs.declared.levels.Level.{Level}

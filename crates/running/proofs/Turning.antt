@@ -1,5 +1,5 @@
 -- One turn, by its parts.
-use Rattle.std.proofs.Common.{◌≡◌, ℕ, zero, suc, ◌-◌, ◌<◌, ◌≤◌, Bool, true, false, cond, eqb, List, [], ◌∷◌, sym, refl, ap, ◌∙◌, arith}
+use Rattle.std.proofs.Common.{◌≡◌, ℕ, zero, suc, ◌<◌, ◌≤◌, List, [], ◌∷◌, sym, refl, ap, ◌∙◌}
 use Rattle.std.proofs.lemmas.Bool.{cond-true, cond-false, eq-eqb, lt-ltb, le-ltb}
 use Rattle.frames.specs.Kinds.{Kind}
 use Rattle.layout.specs.Tree.{Plain, set_place, copy_place, combine_places, pick_cell, put_cell, drive_device, when_place, try_frame, Block}
@@ -10,11 +10,11 @@ use Rattle.layout.specs.Declarations.{Contents}
 use Rattle.oracle_laws.specs.Sets.{Sets}
 use Rattle.rules.specs.declared.Context.{Context}
 use Rattle.rules.specs.Assembly.{Assembly}
-use Rattle.rules.specs.Running.{State, at, tick, told, lower, run_plain}
+use Rattle.rules.specs.Running.{State, at, tick, lower, run_plain}
 use Rattle.running.specs.declared.levels.Level.{Level}
 use Rattle.running.specs.declared.levels.Turns.{Turns}
 use Rattle.running.specs.declared.lowering.Blocks.TheVariants.{One}
-use Rattle.running.specs.Parts.{mixing, granting, assembled, named_for}
+use Rattle.running.specs.Parts.{assembled, named_for}
 use Rattle.running.specs.Levels.{Run, running, act, onward, learned, closed_loop, close, act_front, part_of, turn_of}
 
 -- plain commands hang on the frame kind and the declarations alone

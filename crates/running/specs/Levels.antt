@@ -1,8 +1,8 @@
 -- The blocks that are being run, and what one turn of the loop makes of them.
-use Rattle.std.specs.Prelude.{◌≡◌, ℕ, zero, suc, ◌+◌, ◌-◌, min, Bool, cond, List, [], ◌∷◌, reverse, length, get_or, take, drop, vec_items, ◌==◌, nat_lt, slice_index_or}
+use Rattle.std.specs.Prelude.{ℕ, zero, suc, ◌+◌, ◌-◌, min, Bool, cond, List, [], ◌∷◌, reverse, length, get_or, take, drop, vec_items, ◌==◌, nat_lt, slice_index_or}
 use Rattle.layout.specs.declared.Procedure.{Procedure}
 use Rattle.layout.specs.declared.Span.{Span}
-use Rattle.layout.specs.Tree.{Choice, asked}
+use Rattle.layout.specs.Tree.{asked}
 use Rattle.layout.specs.Layout as flat
 use Rattle.layout.specs.Layout.{Flat}
 use Rattle.layout.specs.Front.{Front, got, bad, front}

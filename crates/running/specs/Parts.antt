@@ -1,5 +1,5 @@
 -- What the parts of a controller stand for in the rules.
-use Rattle.std.specs.Prelude.{ℕ, Bool, false, ◌&&◌, ◌||◌, List, [], nat_le, nat_lt}
+use Rattle.std.specs.Prelude.{ℕ, Bool, false, ◌&&◌, ◌||◌, [], nat_le, nat_lt}
 use Rattle.frames.specs.Kinds.{Kind}
 use Rattle.oracle_laws.specs.Sets.{Sets}
 use Rattle.rules.specs.Assembly.{Assembly}

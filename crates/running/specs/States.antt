@@ -1,5 +1,5 @@
 -- What a cycle works on, as the rules have it.
-use Rattle.std.specs.Prelude.{ℕ, vec_items}
+use Rattle.std.specs.Prelude.{vec_items}
 use Rattle.rules.specs.Running.{State}
 use Rattle.rules.specs.Calls.{Held}
 use Rattle.running.specs.declared.places.Work.{Work}

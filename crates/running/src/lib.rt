@@ -1,4 +1,6 @@
 // How a package runs: one loop over its bytes, with a stack of plain records.
+#![tactic(auto)]
+
 pub mod assembly;
 pub mod cycling;
 mod entering;

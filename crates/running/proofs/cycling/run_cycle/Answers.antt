@@ -1,4 +1,4 @@
-use Rattle.std.proofs.Common.{◌≡◌, ℕ, List, vec_items, sym, refl, ap, ◌∙◌}
+use Rattle.std.proofs.Common.{ℕ, List, vec_items, refl, ap, ◌∙◌}
 use Rattle.package.specs.declared.contents.Contents.{Contents}
 use Rattle.rules.specs.Running.{run_entries}
 use Rattle.rules.specs.Calls.{started}

@@ -1,4 +1,4 @@
-use Rattle.std.proofs.Common.{◌≡◌, get_or, sym, refl, ap, ◌∙◌}
+use Rattle.std.proofs.Common.{get_or, ap, ◌∙◌}
 use Rattle.package.specs.declared.contents.Contents.{Contents}
 use Rattle.package.specs.Declares.{contents_of}
 use Rattle.rules.specs.Running.{no_procedure, fresh}

@@ -1,4 +1,4 @@
-use Rattle.std.proofs.Common.{◌≡◌, ℕ, ◌≤◌, length, sym, ap, arith}
+use Rattle.std.proofs.Common.{◌≤◌, length, sym, arith}
 use borrow.Author.Tests.{false-ltb}
 use Rattle.std.proofs.lemmas.List.{get_or_past}
 use Rattle.running.proofs.lookups.need_of.Goals as goal

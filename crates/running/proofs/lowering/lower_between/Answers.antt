@@ -1,9 +1,8 @@
-use Rattle.std.proofs.Common.{◌≡◌, ℕ, ◌<◌, ◌≤◌, List, length, vec_items, sym, refl, ap, ◌∙◌, ⊎_elim, arith}
-use Rattle.std.proofs.lemmas.Bool.{cases_lt}
+use Rattle.std.proofs.Common.{◌<◌, ◌≤◌, List, length, vec_items, refl, ap, ◌∙◌, arith}
 use Rattle.rules.specs.declared.Place.{Place}
 use Rattle.rules.specs.Running.{with_places}
 use Rattle.running.specs.States.{state_of}
-use Rattle.running.proofs.Lowers.{Lowering, lowering_start, lowering_named, lowering_other, lowering_end}
+use Rattle.running.proofs.Lowers.{lowering_start, lowering_named, lowering_other, lowering_end}
 use Rattle.running.proofs.Cells.{below, inside, past}
 use Rattle.running.proofs.lowering.lower_between.Goals as goal
 use Rattle.running.proofs.lowering.lower_between.Goals.{then-i-len, else-i-len}

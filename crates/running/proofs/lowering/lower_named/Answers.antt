@@ -1,8 +1,8 @@
-use Rattle.std.proofs.Common.{◌≡◌, ℕ, ◌<◌, List, length, vec_items, sym, refl, ap, ◌∙◌, arith, rules}
+use Rattle.std.proofs.Common.{◌<◌, List, length, vec_items, sym, refl, ap, ◌∙◌, arith}
 use Rattle.rules.specs.declared.Place.{Place}
 use Rattle.rules.specs.Running.{with_places}
 use Rattle.running.specs.States.{state_of}
-use Rattle.running.proofs.Lowers.{Lowering, lowering_start, lowering_named, lowering_other, lowering_end}
+use Rattle.running.proofs.Lowers.{lowering_start, lowering_named, lowering_other, lowering_end}
 use Rattle.running.proofs.lowering.lower_named.Goals as goal
 use Rattle.running.proofs.lowering.lower_named.Goals.{then-names, else-names}
 

@@ -1,4 +1,4 @@
-use Rattle.std.proofs.Common.{◌≡◌, List, [], ◌∷◌, ◌++◌, map, vec_items, ap, ◌∙◌}
+use Rattle.std.proofs.Common.{List, [], ◌∷◌, ◌++◌, map, vec_items, ap, ◌∙◌}
 use Rattle.layout.specs.declared.Input.{Input}
 use Rattle.rules.specs.declared.Place.{Place}
 use Rattle.rules.specs.Calls.{new_input}

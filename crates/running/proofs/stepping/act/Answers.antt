@@ -1,4 +1,4 @@
-use Rattle.std.proofs.Common.{◌≡◌, false, [], ◌∷◌, sym, refl, ap, ◌∙◌}
+use Rattle.std.proofs.Common.{false, [], ◌∷◌, ap, ◌∙◌}
 use Rattle.commands.specs.Reads.{flat_of, plain_of}
 use Rattle.package.specs.Declares.{contents_of}
 use Rattle.rules.specs.Running.{State, run_plain}

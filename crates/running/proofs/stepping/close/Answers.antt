@@ -1,4 +1,4 @@
-use Rattle.std.proofs.Common.{◌≡◌, sym, ap, ◌∙◌}
+use Rattle.std.proofs.Common.{sym, ap, ◌∙◌}
 use Rattle.running.specs.declared.levels.Closing.{Closing}
 use Rattle.running.specs.States.{state_of}
 use Rattle.running.specs.Parts.{assembled}

@@ -1,8 +1,8 @@
-use Rattle.std.proofs.Common.{◌≡◌, ℕ, sym, ap, ◌∙◌}
+use Rattle.std.proofs.Common.{ℕ, sym, ap, ◌∙◌}
 use Rattle.rules.specs.Running.{State, tick, lower}
 use Rattle.running.specs.declared.lowering.Blocks.TheVariants.{One}
 use Rattle.running.specs.States.{state_of}
-use Rattle.running.specs.Parts.{mixing, assembled, named_for}
+use Rattle.running.specs.Parts.{assembled, named_for}
 use Rattle.running.specs.Levels.{above}
 use Rattle.running.proofs.Turning.{ran, loop_stops}
 use Rattle.running.proofs.stepping.close_loop.Goals as goal

@@ -1,10 +1,8 @@
 use Rattle.std.proofs.Common.{◌≡◌, ℕ, ◌-◌, false, List, length, take, drop, vec_items, sym, refl, ap, ◌∙◌}
-use Rattle.layout.specs.Layout.{Flat}
-use Rattle.layout.specs.Front.{Front, got, bad, front}
+use Rattle.layout.specs.Front.{got, bad, front}
 use Rattle.commands.specs.Reads.{flat_of, unread}
 use Rattle.package.specs.declared.contents.Contents.{Contents}
 use Rattle.package.specs.Declares.{contents_of}
-use Rattle.rules.specs.Assembly.{Assembly}
 use Rattle.running.specs.States.{state_of}
 use Rattle.running.specs.Parts.{granting, assembled}
 use Rattle.running.specs.Levels.{above, act, part_of}

@@ -1,6 +1,5 @@
-use Rattle.std.proofs.Common.{◌≡◌, ℕ, ◌≤◌, List, length, vec_items, sym, refl, ap, ◌∙◌, arith}
+use Rattle.std.proofs.Common.{◌≡◌, length, vec_items, ap, ◌∙◌, arith}
 use Rattle.package.specs.declared.contents.Contents.{Contents}
-use Rattle.rules.specs.declared.Place.{Place}
 use Rattle.rules.specs.Calls.{new}
 use Rattle.running.specs.Parts.{declared_by}
 use Rattle.running.specs.Entries.{program_of}

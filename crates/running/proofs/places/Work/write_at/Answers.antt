@@ -1,4 +1,4 @@
-use Rattle.std.proofs.Common.{◌≡◌, ℕ, ◌≤◌, List, length, vec_items, sym, ap, arith}
+use Rattle.std.proofs.Common.{◌≤◌, List, length, vec_items, sym, ap, arith}
 use Rattle.std.proofs.lemmas.List.{set_past}
 use Rattle.rules.specs.declared.Place.{Place}
 use Rattle.rules.specs.Running.{with_places}
