@@ -3,7 +3,7 @@ use Rattle.std.proofs.Common.{◌≡◌, ℕ, ◌+◌, ◌<◌, ◌≤◌, false
 use mathlib.Core.List.{map-append}
 use lib.ListN.{length-map}
 use lib.Seq.{take-append_seam, take-append-le, drop-append_seam}
-use Rattle.std.specs.List.{AllByRecursion as All}
+use Rattle.std.specs.List.{AllByRecursion}
 use Rattle.std.proofs.ByRecursion.{All-push, All-weaker}
 use Rattle.std.proofs.lemmas.Bool.{ltb-true, leb-true, and_parts, eqb-false, not-true}
 use Rattle.layout.specs.declared.Input.{Input}
@@ -134,7 +134,7 @@ lawful_simple bytes (input_item i) c bs at latest h e k =
         few_entries = h.few_entries;
         few_blocks = h.few_blocks;
         owned = All-push (λ (i : Input). i.party < length c.parties) c.inputs i h.owned (ltb-true _ _ k.names);
-        cells = subst (λ (ts : List Table). All (λ (t : Table). (0 < t.length) × (length (c.inputs ++ (i ∷ [])) ≤ t.first) × (t.first + t.length ≤ length (c.inputs ++ (i ∷ [])) + length c.cells)) ts) (sym (e.tables (omega arith))) tt;
+        cells = subst (λ (ts : List Table). AllByRecursion (λ (t : Table). (0 < t.length) × (length (c.inputs ++ (i ∷ [])) ≤ t.first) × (t.first + t.length ≤ length (c.inputs ++ (i ∷ [])) + length c.cells)) ts) (sym (e.tables (omega arith))) tt;
         procedures = no_procedures c _ _ _ (e.procedures (omega arith)) (e.bodies (omega arith));
         lie = h.lie;
         spans = h.spans;
@@ -156,7 +156,7 @@ lawful_simple bytes (cell_item x) c bs at latest h e k =
         few_entries = h.few_entries;
         few_blocks = h.few_blocks;
         owned = h.owned;
-        cells = subst (λ (ts : List Table). All (λ (t : Table). (0 < t.length) × (length c.inputs ≤ t.first) × (t.first + t.length ≤ length c.inputs + length (c.cells ++ (x ∷ [])))) ts) (sym (e.tables (omega arith))) tt;
+        cells = subst (λ (ts : List Table). AllByRecursion (λ (t : Table). (0 < t.length) × (length c.inputs ≤ t.first) × (t.first + t.length ≤ length c.inputs + length (c.cells ++ (x ∷ [])))) ts) (sym (e.tables (omega arith))) tt;
         procedures = no_procedures c _ _ _ (e.procedures (omega arith)) (e.bodies (omega arith));
         lie = h.lie;
         spans = h.spans;
@@ -280,7 +280,7 @@ lawful_procedure bytes p b c bs at latest there h e k =
         procedures = push_procedure d 0 0 c.procedures bs x b (carry_procedures c d (length c.procedures) (omega arith) earlier 0 0 c.procedures bs (omega arith) h.procedures) new;
         lie = push_lie bytes c.procedures bs x b h.lie there;
         spans = ap (λ (t : List Span). t ++ spans_block (at + proc_head) b) h.spans ∙ sym (push_spans c 0 0 c.procedures bs x b h.procedures);
-        entries = subst (λ (es : List ℕ). All (λ (n : ℕ). n < length (c.procedures ++ (x ∷ []))) es) (sym none) tt;
+        entries = subst (λ (es : List ℕ). AllByRecursion (λ (n : ℕ). n < length (c.procedures ++ (x ∷ []))) es) (sym none) tt;
         steps = h.steps ∙ ap (cycle_most (body_steps c)) none ∙ sym (ap (cycle_most (body_steps d)) none);
         brief = h.brief;
       },

@@ -1,6 +1,6 @@
 -- What holds of every accepted package.
 use Rattle.std.specs.Prelude.{◌≡◌, ℕ, ◌+◌, ◌<◌, ◌≤◌, List, [], ◌∷◌, ◌++◌, length, take, drop, slice_index}
-use Rattle.std.specs.List.{AllByRecursion as All}
+use Rattle.std.specs.List.{AllByRecursion}
 use Rattle.layout.specs.declared.Input.{Input}
 use Rattle.layout.specs.declared.Table.{Table}
 use Rattle.layout.specs.declared.Procedure.{Procedure}
@@ -68,12 +68,12 @@ pub record Lawful (bytes : List ℕ) (c : Contents) (bs : List Block) : Type 0 w
   pub few_procedures : length c.procedures ≤ 32
   pub few_entries : length c.entries ≤ 32
   pub few_blocks : length c.spans ≤ 256
-  pub owned : All (λ (i : Input). i.party < length c.parties) c.inputs
-  pub cells : All (λ (t : Table). (0 < t.length) × (length c.inputs ≤ t.first) × (t.first + t.length ≤ places c)) c.tables
+  pub owned : AllByRecursion (λ (i : Input). i.party < length c.parties) c.inputs
+  pub cells : AllByRecursion (λ (t : Table). (0 < t.length) × (length c.inputs ≤ t.first) × (t.first + t.length ≤ places c)) c.tables
   pub procedures : LawfulProcedures c 0 0 c.procedures bs
   pub lie : Lie bytes c.procedures bs
   pub spans : c.spans ≡ all_spans c.procedures bs
-  pub entries : All (λ (e : ℕ). e < length c.procedures) c.entries
+  pub entries : AllByRecursion (λ (e : ℕ). e < length c.procedures) c.entries
   pub steps : c.steps ≡ cycle_most (body_steps c) c.entries
   pub brief : c.steps ≤ 1000000
 

@@ -1,6 +1,6 @@
 -- Every place for every block: these sets keep the laws.
 use Rattle.std.proofs.Common.{◌≡◌, ℕ, ◌<◌, ◌≤◌, true, List, [], ◌∷◌, length, sym, subst, ⊎_elim}
-use Rattle.std.specs.List.{AllByRecursion as All}
+use Rattle.std.specs.List.{AllByRecursion}
 use Rattle.std.proofs.lemmas.List.{get_or_past}
 use Rattle.std.proofs.lemmas.Bool.{ltb-true, lt-ltb, and_parts, and_from, cases_lt}
 use Rattle.layout.specs.Tree.{Command, Commands, no_commands, then_command, Block}
@@ -19,7 +19,7 @@ each_of : (A : Command → Type 0) (cs : Commands) → ((c : Command) → A c) �
 each_of A no_commands f = tt
 each_of A (then_command c cs) f = (f c, each_of A cs f)
 
-all_of : (Q : ℕ → Type 0) (ns : List ℕ) → ((n : ℕ) → Q n) → All Q ns
+all_of : (Q : ℕ → Type 0) (ns : List ℕ) → ((n : ℕ) → Q n) → AllByRecursion Q ns
 all_of Q [] f = tt
 all_of Q (n ∷ ns) f = (f n, all_of Q ns f)
 

@@ -1,6 +1,6 @@
 -- What holds of every command of a tree, however deep, with the number of the block around it.
 use Rattle.std.proofs.Common.{ℕ, ◌<◌, ◌≤◌, List, [], ◌∷◌, length, get_or, sym, subst, ⊎_elim}
-use Rattle.std.specs.List.{AllByRecursion as All}
+use Rattle.std.specs.List.{AllByRecursion}
 use Rattle.std.proofs.ByRecursion.{All-append, All-get_or}
 use Rattle.std.proofs.lemmas.List.{get_or_past}
 use Rattle.std.proofs.lemmas.Bool.{cases_lt}
@@ -60,33 +60,33 @@ module _ (Q : ℕ → Command → Type 0) (h : (n : ℕ) (c : Command) → Q n c
 -- the blocks that are entered
 module _ (Q : ℕ → Command → Type 0) where
   mutual
-    in_command : (c : Command) → EveryIn Q c → All (EveryBlock Q) (inside c)
+    in_command : (c : Command) → EveryIn Q c → AllByRecursion (EveryBlock Q) (inside c)
     in_command (plain_command o c) q = tt
     in_command (choose_block c b e) q = All-append (EveryBlock Q) (entered b) (entered e) (in_block b q.0) (in_block e q.1)
     in_command (loop_block a k b) q = in_block b q
     in_command (grant_block g b) q = in_block b q
     in_command (call_procedure p) q = tt
 
-    in_commands : (n : ℕ) (cs : Commands) → EveryCommands Q n cs → All (EveryBlock Q) (inside_commands cs)
+    in_commands : (n : ℕ) (cs : Commands) → EveryCommands Q n cs → AllByRecursion (EveryBlock Q) (inside_commands cs)
     in_commands n no_commands q = tt
     in_commands n (then_command c cs) q = All-append (EveryBlock Q) (inside c) (inside_commands cs) (in_command c q.1) (in_commands n cs q.2)
 
-    in_block : (b : Block) → EveryBlock Q b → All (EveryBlock Q) (entered b)
+    in_block : (b : Block) → EveryBlock Q b → AllByRecursion (EveryBlock Q) (entered b)
     in_block (numbered_block n cs) q = (q, in_commands n cs q)
 
-  in_bodies : (bs : List Block) → All (EveryBlock Q) bs → All (EveryBlock Q) (entered_all bs)
+  in_bodies : (bs : List Block) → AllByRecursion (EveryBlock Q) bs → AllByRecursion (EveryBlock Q) (entered_all bs)
   in_bodies [] q = tt
   in_bodies (b ∷ bs) q = All-append (EveryBlock Q) (entered b) (entered_all bs) (in_block b q.0) (in_bodies bs q.1)
 
   -- and so in each block by its number, also in one that is not there
-  pub every_block : (bs : List Block) → All (EveryBlock Q) bs → (n : ℕ) → EveryBlock Q (get_or (entered_all bs) n no_block)
+  pub every_block : (bs : List Block) → AllByRecursion (EveryBlock Q) bs → (n : ℕ) → EveryBlock Q (get_or (entered_all bs) n no_block)
   every_block bs q n =
       ⊎_elim
       (λ (h : n < length (entered_all bs)). All-get_or (EveryBlock Q) (entered_all bs) n no_block h (in_bodies bs q))
       (λ (h : length (entered_all bs) ≤ n). subst (EveryBlock Q) (sym (get_or_past (entered_all bs) n no_block h)) tt)
       (cases_lt n (length (entered_all bs)))
 
-  pub every_body : (bs : List Block) → All (EveryBlock Q) bs → (p : ℕ) → EveryBlock Q (get_or bs p no_block)
+  pub every_body : (bs : List Block) → AllByRecursion (EveryBlock Q) bs → (p : ℕ) → EveryBlock Q (get_or bs p no_block)
   every_body bs q p =
       ⊎_elim
       (λ (h : p < length bs). All-get_or (EveryBlock Q) bs p no_block h q)

@@ -1,6 +1,6 @@
 -- The laws of sets, command by command over the trees of the bodies.
 use Rattle.std.proofs.Common.{◌≡◌, ℕ, ◌<◌, ◌≤◌, true, List, length, sym, subst, ⊎_elim}
-use Rattle.std.specs.List.{AllByRecursion as All}
+use Rattle.std.specs.List.{AllByRecursion}
 use Rattle.std.proofs.lemmas.List.{get_or_past}
 use Rattle.std.proofs.lemmas.Bool.{cases_lt}
 use Rattle.layout.specs.Tree.{Command, plain_command, choose_block, loop_block, grant_block, call_procedure, Commands, no_commands, then_command, Block, numbered_block}
@@ -14,7 +14,7 @@ use Rattle.oracle_laws.proofs.Standing.{Placed, block_number, body_stands, place
 
 -- for block n are named the targets of a command, and all that is named for the blocks that it runs
 abbrev pub Named : Program → Sets → ℕ → Command → Type 0
-Named P names n c = ((x : ℕ) → assigns P c x ≡ true → names n x ≡ true) × All (λ m. Within names m n) (runs P c)
+Named P names n c = ((x : ℕ) → assigns P c x ≡ true → names n x ≡ true) × AllByRecursion (λ m. Within names m n) (runs P c)
 
 -- so it is for every command of a sequence of block n, of a block, and of the blocks inside
 abbrev pub NamedCommands : Program → Sets → ℕ → Commands → Type 0

@@ -1,6 +1,6 @@
 -- Each block of a package stands at its number.
 use Rattle.std.proofs.Common.{◌≡◌, ℕ, zero, suc, ◌+◌, ◌<◌, ◌≤◌, true, eqb, List, [], ◌∷◌, ◌++◌, length, get_or, sym, refl, ap, ◌∙◌, subst, append_assoc, arith, length-append, length-take}
-use Rattle.std.specs.List.{AllByRecursion as All}
+use Rattle.std.specs.List.{AllByRecursion}
 use Rattle.std.proofs.ByRecursion.{All-get_or, All-from_get_or, All-weaker}
 use Rattle.std.proofs.lemmas.List.{get_or-append-add}
 use Rattle.std.proofs.lemmas.Bool.{ltb-true, eqb-true, and_parts, false≢true}
@@ -58,7 +58,7 @@ module _ (all : List Block) where
   Stands b = get_or all (number b) no_block ≡ b
 
   abbrev Stand : ℕ → Command → Type 0
-  Stand n c = All Stands (parts c)
+  Stand n c = AllByRecursion Stands (parts c)
 
   stands : (us vs : List Block) (b : Block) → all ≡ us ++ (b ∷ vs) → number b ≡ length us → Stands b
   stands us vs b e l =
@@ -95,7 +95,7 @@ module _ (all : List Block) where
         let m : length (us ++ (numbered_block i cs ∷ [])) ≡ n + 1 = omega (arith, length-append us (numbered_block i cs ∷ [])) in
         (stands us (inside_commands cs ++ vs) (numbered_block i cs) e (k.0 ∙ sym l), stand_all w i cs d (n + 1) at (us ++ (numbered_block i cs ∷ [])) vs f m k.1)
 
-  stand_bodies : (c : Contents) (k n : ℕ) (ps : List Procedure) (bs us : List Block) → all ≡ us ++ entered_all bs → length us ≡ n → LawfulProcedures c k n ps bs → All (λ b. Stands b × EveryBlock Stand b) bs
+  stand_bodies : (c : Contents) (k n : ℕ) (ps : List Procedure) (bs us : List Block) → all ≡ us ++ entered_all bs → length us ≡ n → LawfulProcedures c k n ps bs → AllByRecursion (λ b. Stands b × EveryBlock Stand b) bs
   stand_bodies c k n [] [] us e l h = tt
   stand_bodies c k n [] (b ∷ bs) us e l h = absurd h
   stand_bodies c k n (p ∷ ps) [] us e l h = absurd h
@@ -183,7 +183,7 @@ names_bodies c k n (q ∷ ps) (b ∷ bs) h (suc p) l =
 module _ (P : Program) where
   -- the blocks of a command stand at their numbers
   abbrev pub Placed : ℕ → Command → Type 0
-  Placed n c = All (λ b. block P (number b) ≡ b) (parts c)
+  Placed n c = AllByRecursion (λ b. block P (number b) ≡ b) (parts c)
 
   -- the places that a command assigns are declared
   abbrev pub Assigns : ℕ → Command → Type 0
@@ -191,7 +191,7 @@ module _ (P : Program) where
 
 -- the procedures that a command calls are below k
 abbrev pub Calls : ℕ → ℕ → Command → Type 0
-Calls k n c = All (λ p. p < k) (calls c)
+Calls k n c = AllByRecursion (λ p. p < k) (calls c)
 
 calls_below : (c : Contents) (k n : ℕ) (x : Command) → NamesBelow c k n x → Calls k n x
 calls_below c k n (plain_command o x) h = tt
@@ -200,7 +200,7 @@ calls_below c k n (loop_block a t b) h = tt
 calls_below c k n (grant_block g b) h = tt
 calls_below c k n (call_procedure p) h = (omega (arith, ltb-true _ _ h, length-take k (heights c)), tt)
 
-module _ (P : Program) (k : ℕ) (cells : All (λ (t : Table). (0 < t.length) × (length P.contents.inputs ≤ t.first) × (t.first + t.length ≤ places P.contents)) P.contents.tables) where
+module _ (P : Program) (k : ℕ) (cells : AllByRecursion (λ (t : Table). (0 < t.length) × (length P.contents.inputs ≤ t.first) × (t.first + t.length ≤ places P.contents)) P.contents.tables) where
   abbrev w : Scope
   w = below P.contents k
 
@@ -234,7 +234,7 @@ module _ (ds : List Declaration) (kept : Keeps ds) where
   laws : Lawful (encode ds) P.contents P.bodies
   laws = accepted_lawful_lem ds kept
 
-  stand : All (λ b. (block P (number b) ≡ b) × EveryBlock (Placed P) b) P.bodies
+  stand : AllByRecursion (λ b. (block P (number b) ≡ b) × EveryBlock (Placed P) b) P.bodies
   stand = stand_bodies (blocks P) P.contents 0 0 P.contents.procedures P.bodies [] refl refl laws.procedures
 
   name : (p : ℕ) → p < length P.bodies → EveryBlock (NamesBelow P.contents p) (body P p)
@@ -250,7 +250,7 @@ module _ (ds : List Declaration) (kept : Keeps ds) where
       let r = numbered_at 0 (blocks P) n l (numbered_bodies P.contents 0 0 P.contents.procedures P.bodies laws.procedures) in omega arith
 
   -- each block inside a body, or inside any other block, stands at its number
-  placed_bodies : All (EveryBlock (Placed P)) P.bodies
+  placed_bodies : AllByRecursion (EveryBlock (Placed P)) P.bodies
   placed_bodies = All-weaker (λ b. (block P (number b) ≡ b) × EveryBlock (Placed P) b) (EveryBlock (Placed P)) (λ b h. h.1) P.bodies stand
 
   pub placed_body : (p : ℕ) → EveryBlock (Placed P) (body P p)

@@ -1,6 +1,6 @@
 -- What the commands of an accepted package assign: places that the oracle names for their block, and no inputs.
 use Rattle.std.proofs.Common.{◌≡◌, ℕ, zero, suc, ◌+◌, ◌<◌, ◌≤◌, true, eqb, ltb, List, [], ◌∷◌, length, get_or, subst, arith}
-use Rattle.std.specs.List.{AllByRecursion as All}
+use Rattle.std.specs.List.{AllByRecursion}
 use Rattle.std.proofs.ByRecursion.{All-get_or}
 use Rattle.std.proofs.lemmas.Bool.{ltb-true, leb-true, lt-ltb, le-leb, eqb-true, and_parts, and_from, false≢true}
 use Rattle.layout.specs.declared.Procedure.{Procedure}
@@ -55,7 +55,7 @@ module _ (Q R : ℕ → Command → Type 0) where
 
 -- ---- targets are cells
 
-module _ (P : Program) (k : ℕ) (cells : All (λ (t : Table). (0 < t.length) × (length P.contents.inputs ≤ t.first) × (t.first + t.length ≤ places P.contents)) P.contents.tables) where
+module _ (P : Program) (k : ℕ) (cells : AllByRecursion (λ (t : Table). (0 < t.length) × (length P.contents.inputs ≤ t.first) × (t.first + t.length ≤ places P.contents)) P.contents.tables) where
   abbrev w : Scope
   w = below P.contents k
 
