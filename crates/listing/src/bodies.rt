@@ -44,7 +44,7 @@ fn action<'a>(command: Command<'a>) -> Action
 }
 
 // Lists the block of these bytes, at the offset `at`, and answers the number of the block behind it.
-#[cycle(list_block_list_choice_list_command_list_commands)]
+#[cycle(lines)]
 pub(crate) fn list_block(
     lines: &mut Vec<Line>,
     bytes: &[u8],
@@ -64,7 +64,7 @@ pub(crate) fn list_block(
 }
 
 // Lists the commands of these bytes, where the next block has the number `number`.
-#[cycle(list_block_list_choice_list_command_list_commands)]
+#[cycle(lines)]
 fn list_commands(
     lines: &mut Vec<Line>,
     bytes: &[u8],
@@ -86,7 +86,7 @@ fn list_commands(
 }
 
 // Lists the two blocks of a choice, the first of which starts at `start`.
-#[cycle(list_block_list_choice_list_command_list_commands)]
+#[cycle(lines)]
 fn list_choice(
     lines: &mut Vec<Line>,
     first: &[u8],
@@ -109,7 +109,7 @@ fn list_choice(
 }
 
 // Lists a command, then its blocks.
-#[cycle(list_block_list_choice_list_command_list_commands)]
+#[cycle(lines)]
 fn list_command<'a>(
     lines: &mut Vec<Line>,
     command: Command<'a>,

@@ -76,7 +76,7 @@ impl Walking {
     }
 
     // Whether the commands of these bytes, which may call the procedures below the limit, may write the place.
-    #[cycle(any_writes_either_writes_writes)]
+    #[cycle(may_write)]
     fn any_writes(&self, limit: usize, bytes: &[u8], place: u8) -> bool
         ensures { TellsAll (kept self.now) limit bytes.now place result }
     {
@@ -91,7 +91,7 @@ impl Walking {
     }
 
     // Whether one of the two blocks of a choice may write the place.
-    #[cycle(any_writes_either_writes_writes)]
+    #[cycle(may_write)]
     fn either_writes(&self, limit: usize, first: &[u8], second: &[u8], place: u8) -> bool
         ensures { TellsTwo (kept self.now) limit first.now second.now place result }
     {
@@ -99,7 +99,7 @@ impl Walking {
     }
 
     // Whether a command may write the place, with its blocks and the body that it calls.
-    #[cycle(any_writes_either_writes_writes)]
+    #[cycle(may_write)]
     fn writes<'a>(&self, limit: usize, command: Command<'a>, place: u8) -> bool
         ensures { TellsOne (kept self.now) limit (flat_of command.entry) place result }
     {

@@ -300,7 +300,7 @@ impl Drop for EndGuard<'_> {
 }
 
 // The block of these bytes, at the offset `at`.
-#[cycle(block_check_choose_step)]
+#[cycle(walk)]
 fn block<'a>(
     bytes: &[u8],
     scope: Scope<'a>,
@@ -343,7 +343,7 @@ fn block<'a>(
 }
 
 // A choice between two blocks, the first of which starts at `start`.
-#[cycle(block_check_choose_step)]
+#[cycle(walk)]
 fn choose<'a>(
     first: &[u8],
     second: &[u8],
@@ -414,7 +414,7 @@ fn granted(under: Cost) -> Cost
 }
 
 // A command at the offset `at`: its own checks, then its blocks, and what it comes to.
-#[cycle(block_check_choose_step)]
+#[cycle(walk)]
 fn step<'a, 'b>(
     command: Command<'a>,
     scope: Scope<'b>,
@@ -471,7 +471,7 @@ fn step<'a, 'b>(
 }
 
 // The commands of these bytes, which end at the offset `end`.
-#[cycle(block_check_choose_step)]
+#[cycle(walk)]
 fn check<'a>(
     bytes: &[u8],
     scope: Scope<'a>,

@@ -3,7 +3,7 @@ use Rattle.layout.specs.Layout.{command_bytes}
 use Rattle.commands.specs.Reads.{flat_of}
 use Rattle.package.specs.Holds.{scope_of}
 use Rattle.package.proofs.Turns.{Going}
-use Rattle.package.proofs.bodies.+block_check_choose_step.Given as goal
+use Rattle.package.proofs.bodies.+walk.Given as goal
 
 abbrev pub decreases-block : goal.decreases-block
 decreases-block l = 3 * length l.bytes.now + 2

@@ -4,7 +4,7 @@ use Rattle.layout.specs.Layout.{Flat, command_bytes}
 use Rattle.commands.specs.Reads.{flat_of}
 use Rattle.oracles.proofs.Walks.{going_start, going_end, off_bytes, going_hit, going_on, plain_told, choice_told, first_told, second_told, loop_told, grant_told, call_told, no_call_told, lighter}
 use Rattle.oracles.proofs.Held.{body_short}
-use Rattle.oracles.proofs.walking.Walking.+any_writes_either_writes_writes.Goals as goal
+use Rattle.oracles.proofs.walking.Walking.+may_write.Goals as goal
 
 pub any_writes-loop-command-init : goal.any_writes-loop-command-init
 any_writes-loop-command-init t c = going_start _ _ _ _ c.type_inv.bytes

@@ -2,7 +2,7 @@ use Rattle.std.proofs.Common.{◌+◌, ◌*◌, ◌≤◌, length, vec_items}
 use Rattle.layout.specs.Layout.{command_bytes}
 use Rattle.commands.specs.Reads.{flat_of}
 use Rattle.listing.proofs.Tells.{Telling}
-use Rattle.listing.proofs.bodies.+list_block_list_choice_list_command_list_commands.Given as goal
+use Rattle.listing.proofs.bodies.+lines.Given as goal
 
 abbrev pub decreases-list_block : goal.decreases-list_block
 decreases-list_block l = 3 * length l.bytes.now + 2

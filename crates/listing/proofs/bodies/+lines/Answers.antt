@@ -6,7 +6,7 @@ use Rattle.commands.specs.Reads.{flat_of}
 use Rattle.listing.specs.declared.lines.Action.{Action}
 use Rattle.listing.specs.declared.lines.Line.TheVariants as line
 use Rattle.listing.proofs.Tells.{telling_start, telling_end, telling_on, off_bytes, block_tells, two_tell, plain_tells, call_tells, loop_tells, grant_tells, choice_tells}
-use Rattle.listing.proofs.bodies.+list_block_list_choice_list_command_list_commands.Goals as goal
+use Rattle.listing.proofs.bodies.+lines.Goals as goal
 
 pub list_block-returns : goal.list_block-returns
 list_block-returns t c = IfOk-weaker c.list_commands.result _ _ (λ next h. block_tells _ _ _ _ _ _ next _ _ _ _ c.saturating_add.ensures c.in_ok-push.ensures.items h) c.list_commands.ensures

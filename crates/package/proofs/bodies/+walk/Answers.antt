@@ -6,7 +6,7 @@ use Rattle.layout.specs.Layout.{Flat, command_bytes}
 use Rattle.commands.specs.Reads.{flat_of}
 use Rattle.package.proofs.Steps.{decided, walked_grows, block_walked, block_stops, carry_walks, walked_plain, walked_call, walked_loop, stops_loop, walked_grant, stops_grant, stops_first, stops_second, walked_choose}
 use Rattle.package.proofs.Turns.{bytes_all, took_off, going_start, going_end, going_bad, going_stops, going_on}
-use Rattle.package.proofs.bodies.+block_check_choose_step.Goals as goal
+use Rattle.package.proofs.bodies.+walk.Goals as goal
 
 pub block-returns-in_err-cost : goal.block-returns-in_err-cost
 block-returns-in_err-cost t c =

@@ -3,7 +3,7 @@ use Rattle.layout.specs.Layout.{command_bytes}
 use Rattle.commands.specs.Reads.{flat_of}
 use Rattle.oracles.specs.Answers.{kept}
 use Rattle.oracles.proofs.Walks.{Going}
-use Rattle.oracles.proofs.walking.Walking.+any_writes_either_writes_writes.Given as goal
+use Rattle.oracles.proofs.walking.Walking.+may_write.Given as goal
 
 -- a lower procedure weighs less, however long its body
 abbrev pub decreases-any_writes : goal.decreases-any_writes
