@@ -12,7 +12,7 @@ use Rattle.layout.specs.Folds.{most_block, highest_block, spans_block}
 use Rattle.layout.specs.Scope.{Scope}
 
 -- a declaration without a body
--- PARTY has its frame; DEVICE its need, the frame that a drive has to cover; ENTRY a procedure that each cycle runs
+-- a party has its frame; a device its need, the frame that a drive has to cover; an entry a procedure that each cycle runs
 pub data Simple : Type 0 where
   party_item : (frame : ℕ) → Simple
   input_item : Input → Simple
