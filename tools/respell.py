@@ -91,7 +91,7 @@ NAMES = """
     first-told first_told, fits-body fits_body, fits-inner fits_inner, fits-loop fits_loop, flatOf flat_of,
     flip-digit flip_digit, four-at four_at, four-small four_small, frame-true frame_true, front-falls front_falls,
     front-none front_none, front-true front_true, front-unknown front_unknown, full-bit full_bit,
-    gap-covers gap_covers, gap-none gap_none, gap-some gap_some, getD-lowered get_d_lowered,
+    gap-covers gap_covers, gap-none gap_none, gap-some gap_some, getD-lowered get_or-lowered,
     going-again going_again, going-asks going_asks, going-bad going_bad, going-hit going_hit,
     going-refused going_refused, going-stops going_stops, grant-got grant_got, grant-keeps grant_keeps,
     grant-tells grant_tells, grant-told grant_told, grant-true grant_true, grantAt grant_at, grantHead grant_head,

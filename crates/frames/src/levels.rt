@@ -1,7 +1,7 @@
 // The levels kind: a code is trusted for every right below it, and 64 and above for all.
 ghost use Rattle.std.specs.Prelude.{max};
 ghost use Rattle.frames.specs.Levels.{levels};
-ghost use Rattle.std.proofs.Common.{rules};
+ghost use Rattle.frames.specs.LevelLaws.{levels_lawful, max_widens};
 
 use crate::{FrameKind, GrantKind};
 use std::option::Option;
@@ -11,7 +11,7 @@ pub struct Levels {}
 impl FrameKind for Levels {
     ghost meaning = { levels };
 
-    ghost lawful = { Prim.search rules };
+    ghost lawful = { levels_lawful };
 
     fn full() -> u64 {
         64
@@ -29,7 +29,7 @@ impl FrameKind for Levels {
 impl GrantKind for Levels {
     ghost widening = { max };
 
-    ghost widens = { Prim.search rules };
+    ghost widens = { max_widens };
 
     fn widen(a: u64, b: u64) -> u64 {
         a.max(b)
