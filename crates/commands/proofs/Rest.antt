@@ -1,15 +1,17 @@
 -- What `rest @ ..` names, and what stands at the front of a block, by its first byte.
 use Rattle.std.proofs.Common.{◌≡◌, ℕ, ◌-◌, ◌<◌, ◌≤◌, cond, eqb, List, [], ◌∷◌, length, get_or, take, drop, Result, sym, refl, ap, ◌∙◌, arith, length-drop, take_all, Bor}
 use Rattle.std.proofs.lemmas.Bool.{cond_both, cond-false, lt-leb, eqb-true, eqb-false}
-use Rattle.layout.specs.Tree.{Plain, set_place, when_place, try_frame}
+use Rattle.layout.specs.Tree as tree
+use Rattle.layout.specs.Tree.{set_place, when_place, try_frame}
 use Rattle.layout.specs.Bytes.{be16, be32, be64}
 use Rattle.layout.specs.Layout as flat
 use Rattle.layout.specs.Layout.{Flat}
 use Rattle.layout.specs.Front.{Front, got, bad, need, set_at, pair_at, triple_at, choice_at, loop_at, grant_at, call_at, front, front_by_code}
 use Rattle.layout.proofs.Fronts.{met}
 use Rattle.commands.specs.declared.Command.{Command}
+use Rattle.commands.specs.declared.Plain.{Plain}
 use Rattle.commands.specs.declared.Unread.{Unread}
-use Rattle.commands.specs.Reads.{flat_of, Reads, one_block, two_blocks}
+use Rattle.commands.specs.Reads.{plain_of, Reads, one_block, two_blocks}
 
 pub rest_all : {X : Type 0} (n : ℕ) (xs : List X) → take (length xs - n) (drop n xs) ≡ drop n xs
 rest_all n xs = take_all (length xs - n) (drop n xs) (omega (arith, length-drop n xs))
@@ -91,10 +93,10 @@ some_byte (x ∷ bs) h = omega arith
 -- whole commands, by the bytes that they take
 
 module _ (bs rest : List ℕ) where
-  pub pair_got : (c : ℕ → ℕ → Plain) → 3 ≤ length bs → rest ≡ drop 3 bs → pair_at c bs ≡ got (flat.plain (c (get_or bs 1 0) (get_or bs 2 0))) rest
+  pub pair_got : (c : ℕ → ℕ → tree.Plain) → 3 ≤ length bs → rest ≡ drop 3 bs → pair_at c bs ≡ got (flat.plain (c (get_or bs 1 0) (get_or bs 2 0))) rest
   pair_got c h e = met 8 3 bs _ h ∙ ap (λ (r : List ℕ). got (flat.plain (c (get_or bs 1 0) (get_or bs 2 0))) r) (sym e)
 
-  pub triple_got : (c : ℕ → ℕ → ℕ → Plain) → 4 ≤ length bs → rest ≡ drop 4 bs → triple_at c bs ≡ got (flat.plain (c (get_or bs 1 0) (get_or bs 2 0) (get_or bs 3 0))) rest
+  pub triple_got : (c : ℕ → ℕ → ℕ → tree.Plain) → 4 ≤ length bs → rest ≡ drop 4 bs → triple_at c bs ≡ got (flat.plain (c (get_or bs 1 0) (get_or bs 2 0) (get_or bs 3 0))) rest
   triple_got c h e = met 8 4 bs _ h ∙ ap (λ (r : List ℕ). got (flat.plain (c (get_or bs 1 0) (get_or bs 2 0) (get_or bs 3 0))) r) (sym e)
 
   pub set_got : (n : ℕ) → 6 ≤ length bs → n ≡ be32 bs 2 → rest ≡ drop 6 bs → set_at bs ≡ got (flat.plain (set_place (get_or bs 1 0) n)) rest
@@ -119,5 +121,6 @@ module _ (bs rest : List ℕ) where
 pub reads_as : (f g : Front Flat) (r : Result (Command × Bor (List ℕ)) Unread) → f ≡ g → Reads g r → Reads f r
 reads_as f g r e h = rw e h
 
-pub told_as : (f : Front Flat) (c d : Command) (rest : List ℕ) → d ≡ c → f ≡ got (flat_of c) rest → f ≡ got (flat_of d) rest
+-- the same of a plain command
+pub told_as : (f : Front Flat) (c d : Plain) (rest : List ℕ) → d ≡ c → f ≡ got (flat.plain (plain_of c)) rest → f ≡ got (flat.plain (plain_of d)) rest
 told_as f c d rest e h = rw e h

@@ -41,7 +41,10 @@ abbrev pub unread : Unread → ℕ
 unread NoSuchByte = 3
 unread PastEnd = 8
 
--- r is what f says
+-- r is what f says, of a plain command and of any
+abbrev pub ReadsPlain : Front Flat → Result (Plain × Bor (List ℕ)) Unread → Type 0
+ReadsPlain f r = MatchResult r (λ p. f ≡ got (plain (plain_of p.0)) p.1.now) (λ e. f ≡ bad (unread e))
+
 abbrev pub Reads : Front Flat → Result (Command × Bor (List ℕ)) Unread → Type 0
 Reads f r = MatchResult r (λ p. f ≡ got (flat_of p.0) p.1.now) (λ e. f ≡ bad (unread e))
 

@@ -2,10 +2,11 @@
 #![tactic(auto)]
 
 ghost use Rattle.std.specs.Prelude.{◌≡◌, ℕ, ◌+◌, ◌-◌, ◌*◌, ◌<◌, ◌≤◌, length, MatchResult, slice_index};
+ghost use Rattle.layout.specs.Bytes.{be16, be64};
 ghost use Rattle.layout.specs.Front.{front};
 ghost use Rattle.layout.specs.Layout.{loop as flat_loop, grant as flat_grant};
 ghost use Rattle.layout.specs.Tree.{when_place, try_frame};
-ghost use Rattle.commands.specs.Reads.{Reads, CutOff, one_block, two_blocks};
+ghost use Rattle.commands.specs.Reads.{Reads, ReadsPlain, CutOff, one_block, two_blocks};
 
 // What combines two values.
 #[derive(Clone, Copy, Debug, PartialEq, Eq)]
@@ -86,110 +87,76 @@ pub enum Unread {
     PastEnd,
 }
 
-// Numbers, the highest byte first.
-pub fn number16(a: u8, b: u8) -> u16
-    ensures { result ≡ a * 256 + b }
+// Cuts a block off the front, whose length stands in these two bytes.
+fn cut<'a>(bytes: &'a [u8], length: [u8; 2]) -> Result<(&'a [u8], &'a [u8]), Unread>
+    ensures { CutOff (be16 «length» 0) bytes.now result }
 {
-    u16::from_be_bytes([a, b])
+    let length = usize::from(u16::from_be_bytes(length));
+    bytes.split_at_checked(length).ok_or(Unread::PastEnd)
 }
 
-pub fn number32(a: u8, b: u8, c: u8, d: u8) -> u32
-    ensures { result ≡ (a * 256 + b) * 65536 + (c * 256 + d) }
+// A command that combines two values.
+fn combine(operation: Operation, target: u8, left: u8, right: u8) -> Plain
+    ensures { result ≡ Plain.Combine operation target left right }
 {
-    u32::from_be_bytes([a, b, c, d])
-}
-
-pub fn number64(a: u8, b: u8, c: u8, d: u8, e: u8, f: u8, g: u8, h: u8) -> u64
-    ensures { result ≡ ((a * 256 + b) * 65536 + (c * 256 + d)) * 4294967296 + ((e * 256 + f) * 65536 + (g * 256 + h)) }
-{
-    u64::from_be_bytes([a, b, c, d, e, f, g, h])
-}
-
-// Cuts a block of n bytes off the front.
-fn cut<'a>(bytes: &'a [u8], n: u16) -> Result<(&'a [u8], &'a [u8]), Unread>
-    ensures { CutOff n bytes.now result }
-{
-    let n = usize::from(n);
-    if n > bytes.len() {
-        return Err(Unread::PastEnd);
-    }
-    Ok(bytes.split_at(n))
-}
-
-// Plain commands, from their operands.
-fn set<'a>(target: u8, value: u32) -> Command<'a>
-    ensures { result ≡ Command.Plain (Plain.Set target value) }
-{
-    Command::Plain(Plain::Set { target, value })
-}
-
-fn copy<'a>(target: u8, source: u8) -> Command<'a>
-    ensures { result ≡ Command.Plain (Plain.Copy target source) }
-{
-    Command::Plain(Plain::Copy { target, source })
-}
-
-fn combine<'a>(operation: Operation, target: u8, left: u8, right: u8) -> Command<'a>
-    ensures { result ≡ Command.Plain (Plain.Combine operation target left right) }
-{
-    Command::Plain(Plain::Combine {
+    Plain::Combine {
         operation,
         target,
         left,
         right,
-    })
+    }
 }
 
-fn pick<'a>(target: u8, table: u8, index: u8) -> Command<'a>
-    ensures { result ≡ Command.Plain (Plain.Pick target table index) }
-{
-    Command::Plain(Plain::Pick {
-        target,
-        table,
-        index,
-    })
-}
-
-fn put<'a>(table: u8, index: u8, source: u8) -> Command<'a>
-    ensures { result ≡ Command.Plain (Plain.Put table index source) }
-{
-    Command::Plain(Plain::Put {
-        table,
-        index,
-        source,
-    })
-}
-
-fn drive<'a>(device: u8, source: u8) -> Command<'a>
-    ensures { result ≡ Command.Plain (Plain.Drive device source) }
-{
-    Command::Plain(Plain::Drive { device, source })
-}
-
-// The commands without blocks that call nothing.
-fn decode_plain<'a>(bytes: &'a [u8]) -> Result<(Command<'a>, &'a [u8]), Unread>
-    ensures { (0x0B ≤ slice_index bytes.now 0 → slice_index bytes.now 0 ≤ 0x0F → ⊥) → Reads (front bytes.now) result }
+// The plain command at the front of a block, which a byte below 0x0B leads, and the bytes behind it.
+fn decode_plain<'a>(bytes: &'a [u8]) -> Result<(Plain, &'a [u8]), Unread>
+    ensures { (0x0B ≤ slice_index bytes.now 0 → slice_index bytes.now 0 ≤ 0x0F → ⊥) → ReadsPlain (front bytes.now) result }
 {
     match bytes {
-        [0x01, x, n3, n2, n1, n0, rest @ ..] => Ok((set(*x, number32(*n3, *n2, *n1, *n0)), rest)),
-        [0x02, x, a, rest @ ..] => Ok((copy(*x, *a), rest)),
-        [0x03, x, a, b, rest @ ..] => Ok((combine(Operation::Add, *x, *a, *b), rest)),
-        [0x04, x, a, b, rest @ ..] => Ok((combine(Operation::Sub, *x, *a, *b), rest)),
-        [0x05, x, a, b, rest @ ..] => Ok((combine(Operation::Less, *x, *a, *b), rest)),
-        [0x06, x, a, b, rest @ ..] => Ok((combine(Operation::Same, *x, *a, *b), rest)),
-        [0x07, x, a, b, rest @ ..] => Ok((combine(Operation::Bits, *x, *a, *b), rest)),
-        [0x08, x, t, a, rest @ ..] => Ok((pick(*x, *t, *a), rest)),
-        [0x09, t, a, b, rest @ ..] => Ok((put(*t, *a, *b), rest)),
-        [0x0A, d, a, rest @ ..] => Ok((drive(*d, *a), rest)),
+        &[0x01, target, n3, n2, n1, n0, ref rest @ ..] => {
+            let value = u32::from_be_bytes([n3, n2, n1, n0]);
+            Ok((Plain::Set { target, value }, rest))
+        }
+        &[0x02, target, source, ref rest @ ..] => Ok((Plain::Copy { target, source }, rest)),
+        &[0x03, x, a, b, ref rest @ ..] => Ok((combine(Operation::Add, x, a, b), rest)),
+        &[0x04, x, a, b, ref rest @ ..] => Ok((combine(Operation::Sub, x, a, b), rest)),
+        &[0x05, x, a, b, ref rest @ ..] => Ok((combine(Operation::Less, x, a, b), rest)),
+        &[0x06, x, a, b, ref rest @ ..] => Ok((combine(Operation::Same, x, a, b), rest)),
+        &[0x07, x, a, b, ref rest @ ..] => Ok((combine(Operation::Bits, x, a, b), rest)),
+        &[0x08, target, table, index, ref rest @ ..] => {
+            Ok((
+                Plain::Pick {
+                    target,
+                    table,
+                    index,
+                },
+                rest,
+            ))
+        }
+        &[0x09, table, index, source, ref rest @ ..] => {
+            Ok((
+                Plain::Put {
+                    table,
+                    index,
+                    source,
+                },
+                rest,
+            ))
+        }
+        &[0x0A, device, source, ref rest @ ..] => Ok((Plain::Drive { device, source }, rest)),
         [0x01..=0x0A, ..] => Err(Unread::PastEnd),
         [] => Err(Unread::PastEnd),
         [_, ..] => Err(Unread::NoSuchByte),
     }
 }
 
-// A WHEN, whose two blocks have these lengths.
-fn when<'a>(place: u8, l: u16, m: u16, rest: &'a [u8]) -> Result<(Command<'a>, &'a [u8]), Unread>
-    ensures { Reads (two_blocks (when_place place) l m rest.now) result }
+// A WHEN, the lengths of whose two blocks stand in these bytes.
+fn when<'a>(
+    place: u8,
+    l: [u8; 2],
+    m: [u8; 2],
+    rest: &'a [u8],
+) -> Result<(Command<'a>, &'a [u8]), Unread>
+    ensures { Reads (two_blocks (when_place place) (be16 l 0) (be16 m 0) rest.now) result }
 {
     let (first, rest) = cut(rest, l)?;
     let (second, rest) = cut(rest, m)?;
@@ -201,20 +168,20 @@ fn when<'a>(place: u8, l: u16, m: u16, rest: &'a [u8]) -> Result<(Command<'a>, &
     Ok((command, rest))
 }
 
-// A TRY, whose two blocks have these lengths.
+// A TRY, whose frame and the lengths of whose two blocks stand in these bytes.
 fn attempt<'a>(
-    frame: u64,
+    frame: [u8; 8],
     place: u8,
-    l: u16,
-    m: u16,
+    l: [u8; 2],
+    m: [u8; 2],
     rest: &'a [u8],
 ) -> Result<(Command<'a>, &'a [u8]), Unread>
-    ensures { Reads (two_blocks (try_frame frame place) l m rest.now) result }
+    ensures { Reads (two_blocks (try_frame (be64 frame 0) place) (be16 l 0) (be16 m 0) rest.now) result }
 {
     let (first, rest) = cut(rest, l)?;
     let (second, rest) = cut(rest, m)?;
     let command = Command::Try {
-        frame,
+        frame: u64::from_be_bytes(frame),
         place,
         first,
         second,
@@ -222,27 +189,31 @@ fn attempt<'a>(
     Ok((command, rest))
 }
 
-// A LOOP, whose block has this length.
+// A LOOP, the length of whose block stands in these bytes.
 fn repeat<'a>(
     place: u8,
     times: u8,
-    l: u16,
+    length: [u8; 2],
     rest: &'a [u8],
 ) -> Result<(Command<'a>, &'a [u8]), Unread>
-    ensures { Reads (one_block (λ y. flat_loop place times y) l rest.now) result }
+    ensures { Reads (one_block (λ y. flat_loop place times y) (be16 «length» 0) rest.now) result }
 {
-    let (body, rest) = cut(rest, l)?;
+    let (body, rest) = cut(rest, length)?;
     let command = Command::Loop { place, times, body };
     Ok((command, rest))
 }
 
-// A GRANT, whose block has this length.
-fn granting<'a>(frame: u64, l: u16, rest: &'a [u8]) -> Result<(Command<'a>, &'a [u8]), Unread>
-    ensures { Reads (one_block (λ y. flat_grant frame y) l rest.now) result }
+// A GRANT, whose frame and the length of whose block stand in these bytes.
+fn granting<'a>(
+    frame: [u8; 8],
+    length: [u8; 2],
+    rest: &'a [u8],
+) -> Result<(Command<'a>, &'a [u8]), Unread>
+    ensures { Reads (one_block (λ y. flat_grant (be64 frame 0) y) (be16 «length» 0) rest.now) result }
 {
-    let (body, rest) = cut(rest, l)?;
-    let command = Command::Grant { frame, body };
-    Ok((command, rest))
+    let frame = u64::from_be_bytes(frame);
+    let (body, rest) = cut(rest, length)?;
+    Ok((Command::Grant { frame, body }, rest))
 }
 
 // The command at the front of a block, and the bytes behind it.
@@ -250,16 +221,13 @@ pub fn decode<'a>(bytes: &'a [u8]) -> Result<(Command<'a>, &'a [u8]), Unread>
     ensures { Reads (front bytes.now) result }
 {
     match bytes {
-        [0x0B, a, l1, l0, m1, m0, rest @ ..] => {
-            when(*a, number16(*l1, *l0), number16(*m1, *m0), rest)
+        &[0x0B, place, l1, l0, m1, m0, ref rest @ ..] => when(place, [l1, l0], [m1, m0], rest),
+        &[0x0C, place, times, l1, l0, ref rest @ ..] => repeat(place, times, [l1, l0], rest),
+        &[0x0D, g7, g6, g5, g4, g3, g2, g1, g0, l1, l0, ref rest @ ..] => {
+            granting([g7, g6, g5, g4, g3, g2, g1, g0], [l1, l0], rest)
         }
-        [0x0C, a, k, l1, l0, rest @ ..] => repeat(*a, *k, number16(*l1, *l0), rest),
-        [0x0D, g7, g6, g5, g4, g3, g2, g1, g0, l1, l0, rest @ ..] => {
-            let frame = number64(*g7, *g6, *g5, *g4, *g3, *g2, *g1, *g0);
-            granting(frame, number16(*l1, *l0), rest)
-        }
-        [0x0E, p, rest @ ..] => Ok((Command::Call { procedure: *p }, rest)),
-        [
+        &[0x0E, procedure, ref rest @ ..] => Ok((Command::Call { procedure }, rest)),
+        &[
             0x0F,
             g7,
             g6,
@@ -269,17 +237,20 @@ pub fn decode<'a>(bytes: &'a [u8]) -> Result<(Command<'a>, &'a [u8]), Unread>
             g2,
             g1,
             g0,
-            a,
+            place,
             l1,
             l0,
             m1,
             m0,
-            rest @ ..,
+            ref rest @ ..,
         ] => {
-            let frame = number64(*g7, *g6, *g5, *g4, *g3, *g2, *g1, *g0);
-            attempt(frame, *a, number16(*l1, *l0), number16(*m1, *m0), rest)
+            let frame = [g7, g6, g5, g4, g3, g2, g1, g0];
+            attempt(frame, place, [l1, l0], [m1, m0], rest)
         }
         [0x0B..=0x0F, ..] => Err(Unread::PastEnd),
-        _ => decode_plain(bytes),
+        _ => {
+            let (plain, rest) = decode_plain(bytes)?;
+            Ok((Command::Plain(plain), rest))
+        }
     }
 }

@@ -137,8 +137,8 @@ impl WriteOracle for Walking {
 
     ghost lawful = { smallest_lawful_lem };
 
-    fn prepare(heap: Global, held: &Package) -> Result<Walking, AllocError> {
-        let held = held.copy(heap)?;
+    fn prepare(_heap: Global, held: &Package) -> Result<Walking, AllocError> {
+        let held = held.clone()?;
         Ok(Walking { held })
     }
 

@@ -1,7 +1,7 @@
 -- What loading answers, from what is read.
-use Rattle.std.proofs.Common.{◌≡◌, ℕ, ◌+◌, ◌<◌, ◌≤◌, true, leb, List, length, get_or, sym, ap, ◌∙◌, subst, arith, w8, Fits}
-use Rattle.std.proofs.lemmas.Bool.{le-leb, lt-leb, cond-false}
-use Rattle.layout.specs.Reading.{Got, ok, fault}
+use Rattle.std.proofs.Common.{◌≡◌, ℕ, ◌+◌, ◌≤◌, true, leb, List, length, get_or, sym, ap, ◌∙◌, subst, arith, w8, Fits}
+use Rattle.std.proofs.lemmas.Bool.{le-leb}
+use Rattle.layout.specs.Reading.{Got, ok}
 use Rattle.layout.specs.Declarations.{Declaration, Contents, nothing}
 use Rattle.layout.specs.Packages.{Keeps, encode, contents, read_all, read_package, accepts, declarations, held}
 use Rattle.layout.proofs.Completes.{passes}
@@ -9,7 +9,8 @@ use Rattle.layout.specs.Accepted.{bodies, Lawful}
 use Rattle.layout.proofs.Accepts.{accepted_exactly_lem, accepts_read}
 use Rattle.layout.proofs.Lawful.{accepted_lawful_lem}
 use Rattle.package.specs.declared.refusal.Refusal.{Refusal}
-use Rattle.package.specs.Holds.{number, Refused}
+use Rattle.package.specs.Faults.{number}
+use Rattle.package.specs.Holds.{Refused}
 use Rattle.package.proofs.Turns.{bytes_all}
 
 module _ (bs : List ℕ) (small : (i : ℕ) → Fits w8 (get_or bs i 0)) where
@@ -44,9 +45,6 @@ module _ (bs : List ℕ) (small : (i : ℕ) → Fits w8 (get_or bs i 0)) where
       pub held_all : (c : Contents) → c ≡ contents all → c ≡ held bs
       unfolding held
       held_all c h = h ∙ ap contents (sym is_all)
-
-pub too_long : (bs : List ℕ) → 8192 < length bs → read_package bs ≡ fault 1 0
-too_long bs h = cond-false (leb (length bs) 8192) _ _ (lt-leb (length bs) 8192 h)
 
 -- the laws of accepted packages, of the bytes themselves
 pub lawful_bytes : (bs : List ℕ) → Keeps (declarations bs) × (encode (declarations bs) ≡ bs) → Lawful bs (contents (declarations bs)) (bodies (declarations bs))

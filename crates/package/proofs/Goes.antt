@@ -1,5 +1,5 @@
 -- The reading of a package so far, and one declaration more.
-use Rattle.std.proofs.Common.{◌≡◌, ℕ, zero, suc, ◌+◌, ◌≤◌, List, [], ◌∷◌, ◌++◌, length, get_or, sym, refl, ap, ◌∙◌, subst, append_assoc, append-nil, arith, length-append, w8, Fits}
+use Rattle.std.proofs.Common.{◌≡◌, ℕ, zero, suc, ◌+◌, ◌≤◌, List, [], ◌∷◌, ◌++◌, length, get_or, sym, refl, ap, ◌∙◌, subst, append_assoc, append-nil, arith, length-append, w8, Fits, Some, Option, Bor}
 use Rattle.layout.specs.Bytes.{Bytes}
 use Rattle.layout.specs.Front.{got}
 use Rattle.layout.specs.Reading.{Got, ok, fault, and_then}
@@ -9,8 +9,10 @@ use Rattle.layout.proofs.Numbers.{bytes_right}
 use Rattle.layout.proofs.Fronts.{True}
 use Rattle.layout.proofs.Items.{lead_true, led}
 use Rattle.package.specs.declared.refusal.Refusal.{Refusal}
-use Rattle.package.specs.Holds.{number, offset, Refused}
-use Rattle.package.specs.Items.{Fronted}
+use Rattle.package.specs.Faults.{number, offset}
+use Rattle.package.specs.Holds.{Refused}
+use Rattle.package.specs.declared.declarations.Declaration.{Declaration as Code}
+use Rattle.package.specs.Items.{item_of, Fronted, TakesNext}
 use Rattle.package.specs.Declares.{Declared}
 use Rattle.package.proofs.Steps.{stops, refused_as}
 use Rattle.package.proofs.Turns.{bytes_all}
@@ -29,6 +31,10 @@ item_off bs small i after e =
     let t : item_bytes i ++ after ≡ bs = subst (True item_bytes bs) e (lead_true bs small (get_or bs 0 0) refl) in
     let l : length (item_bytes i ++ after) ≡ length bs = ap length t in
     (sym (length-append (item_bytes i) after) ∙ l, rw led (omega arith), bytes_right (item_bytes i) after (rw t small))
+
+-- what was taken where a declaration stands next
+pub taken : (rest : List ℕ) (at latest : ℕ) (o : Option (Code × Bor (List ℕ))) (d : Code) (after : Bor (List ℕ)) → o ≡ Some (d, after) → TakesNext rest at latest o → Fronted rest at latest (item_of d) after.now
+taken rest at latest o d after e h = subst (TakesNext rest at latest) e h
 
 pub record Going (bs rest : List ℕ) (at latest : ℕ) (s : Contents) : Type 0 where
   pub pre : List Declaration

@@ -1,4 +1,3 @@
-pub mod Mapped
 pub mod Steps
 pub mod Turns
 pub mod Leads

@@ -1,6 +1,6 @@
 -- What each command comes to, from what its blocks come to.
-use Rattle.std.proofs.Common.{◌≡◌, ℕ, zero, suc, ◌+◌, ◌-◌, ◌*◌, ◌≤◌, max, List, [], ◌∷◌, ◌++◌, length, get_or, set, Ok, Err, Result, sym, refl, ap, ◌∙◌, inl, inr, append_assoc, append-nil, arith, length-append}
-use lib.Seq.{set-append_seam}
+use Rattle.std.proofs.Common.{◌≡◌, ℕ, zero, suc, ◌+◌, ◌-◌, ◌*◌, ◌≤◌, max, List, [], ◌∷◌, ◌++◌, length, get_or, set, Result, sym, refl, ap, ◌∙◌, inl, inr, append_assoc, append-nil, arith, length-append}
+use Rattle.std.proofs.Math.Seq.{set-append_seam}
 use Rattle.std.proofs.lemmas.Bool.{cases_lt}
 use Rattle.layout.specs.declared.Span.{Span}
 use Rattle.layout.specs.Tree.{Plain, Choice, Command, plain_command, choose_block, loop_block, grant_block, call_procedure, Commands, Block, numbered_block}
@@ -14,7 +14,7 @@ use Rattle.layout.proofs.Sizes.{spans_size_commands, spans_size_block}
 use Rattle.package.specs.declared.bodies.Cost.{Cost}
 use Rattle.package.specs.declared.refusal.Refusal.{Refusal}
 use Rattle.package.specs.Holds.{Refused}
-use Rattle.package.specs.Walks.{capped, Stops, WalkedOne, WalksOne, WalkedAll, WalkedBlock, WalksBlock, WalksBody}
+use Rattle.package.specs.Walks.{capped, Stops, WalkedOne, WalksOne, WalkedAll, WalkedBlock}
 
 pub stops : {A B : Type 0} (g : Got A) (k : A → Got B) (e : Refusal) → Refused g e → Refused (and_then g k) e
 stops g k e h = λ n. let p = h n in rw p
@@ -59,18 +59,6 @@ module _ (w : Scope) (bs : List ℕ) (at at' d q : ℕ) (before pushed : List Sp
         steps = h.steps;
         high = h.high;
       }
-
-  pub block_stops : (e : Refusal) → Stops (length bs + 1) (λ f. read f w bs at' d (length pushed) q) e → Stops (length bs + 1) (λ f. inner f w d bs at (length before) q) e
-  block_stops e h f l = let k = one_more in stops (read f w bs at d (length before + 1) q) _ e (rw (← same, ← k) (h f l))
-
--- blocks are only added
-pub walked_grows : (w : Scope) (bs : List ℕ) (at d q : ℕ) (before after : List Span) (c : Cost) → WalkedAll w bs at d q before after c → length before ≤ length after
-walked_grows w bs at d q before after c h = let l = length-append before (spans_commands at h.tree) in let e : length after ≡ length (before ++ spans_commands at h.tree) = ap length h.blocks in omega arith
-
--- a body
-pub body_walks : (w : Scope) (bs : List ℕ) (at : ℕ) (before after : List Span) (r : Result Cost Refusal) → WalksBlock w bs at 0 0 before after r → WalksBody w bs at before after r
-body_walks w bs at before after (Ok c) h = record { tree = h.tree; reads = h.reads (length bs + 1) (omega arith); is = h.is; blocks = h.blocks; steps = h.steps; high = h.high }
-body_walks w bs at before after (Err e) h = h (length bs + 1) (omega arith)
 
 pub decided : (w : Scope) (c c' : Flat) (d n q : ℕ) → c ≡ c' → Kept w d c × (n + q + blocks c ≤ 256) → Kept w d c' × (n + q + blocks c' ≤ 256)
 decided w c c' d n q e h = rw (← e) h
@@ -142,9 +130,6 @@ module _ (w : Scope) (at d q : ℕ) (before : List Span) where
         some : (c : Choice) → 1 ≤ choice_head c
         some (Rattle.layout.specs.Tree.when_place a) = omega arith
         some (Rattle.layout.specs.Tree.try_frame g a) = omega arith
-
-    pub stops_first : (e : Refusal) → Stops (length y + 1) (λ f. inner f w (d + 1) y start (length before) (q + 1)) e → Stops (length (command_bytes (choose c y z))) (λ f. one (inner f w (d + 1)) w (choose c y z) at d (length before) q) e
-    stops_first e h f l = refused_as _ _ e (into _ _ refl) (stops (inner f w (d + 1) y (at + choice_head c) (length before) (q + 1)) _ e (rw head (h f (room f l).0)))
 
     module _ (mid : List Span) (x : Cost) (h : WalkedBlock w y start (d + 1) (q + 1) before mid x) where
       next : length mid ≡ length before + size_block h.tree

@@ -14,7 +14,7 @@ use Rattle.layout.proofs.Completes.{command_long, read_front}
 use Rattle.layout.proofs.Sizes.{spans_size}
 use Rattle.package.specs.declared.bodies.Cost.{Cost}
 use Rattle.package.specs.declared.refusal.Refusal.{Refusal}
-use Rattle.package.specs.Holds.{number, offset}
+use Rattle.package.specs.Faults.{number, offset}
 use Rattle.package.specs.Walks.{capped, Stops, WalkedOne, WalkedAll}
 use Rattle.package.proofs.Steps.{stops, refused_as}
 

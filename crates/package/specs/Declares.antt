@@ -5,7 +5,8 @@ use Rattle.layout.specs.Declarations as layout
 use Rattle.layout.specs.Packages.{room, known, filled, declaration}
 use Rattle.package.specs.declared.contents.Contents.{Contents}
 use Rattle.package.specs.declared.refusal.Refusal.{Refusal}
-use Rattle.package.specs.Holds.{number, offset, Refused}
+use Rattle.package.specs.Faults.{number, offset}
+use Rattle.package.specs.Holds.{Refused}
 
 abbrev pub contents_of : Contents → layout.Contents
 contents_of c = record {

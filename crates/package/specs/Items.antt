@@ -7,10 +7,8 @@ use Rattle.layout.specs.Declarations.{party_item, input_item, cell_item, table_i
 use Rattle.layout.specs.Packages.{by_lead, next_item, read_all}
 use Rattle.package.specs.declared.declarations.Declaration.{Declaration}
 use Rattle.package.specs.declared.declarations.Declaration.TheVariants as declaration
-use Rattle.package.specs.declared.declarations.Next.{Next}
-use Rattle.package.specs.declared.declarations.Next.TheVariants.{Declared, Finished}
 use Rattle.package.specs.declared.refusal.Refusal.{Refusal}
-use Rattle.package.specs.Holds.{number, offset}
+use Rattle.package.specs.Faults.{number, offset}
 
 abbrev pub item_of : Declaration → Item
 item_of (declaration.Party g) = simple (party_item g)
@@ -36,9 +34,9 @@ pub record Fronted (bs : List ℕ) (at latest : ℕ) (i : Item) (after : List �
   pub front : by_lead (slice_index bs 0) bs ≡ got i after
   pub reads : (f : ℕ) (s : Contents) → read_all (suc f) s at latest bs ≡ next_item (read_all f) s at (at + length bs) (got i after)
 
-abbrev pub TakesNext : List ℕ → ℕ → ℕ → Next → Type 0
-TakesNext bs at latest (Declared d after) = Fronted bs at latest (item_of d) after.now
-TakesNext bs at latest Finished = (f : ℕ) (s : Contents) → read_all (suc f) s at latest bs ≡ ok []
+-- r is what stands next in the bytes: a declaration, or the end of the package
+abbrev pub TakesNext : List ℕ → ℕ → ℕ → Option (Declaration × Bor (List ℕ)) → Type 0
+TakesNext bs at latest r = MatchOption r ((f : ℕ) (s : Contents) → read_all (suc f) s at latest bs ≡ ok []) (λ p. Fronted bs at latest (item_of p.0) p.1.now)
 
-abbrev pub Takes : List ℕ → ℕ → ℕ → Result Next Refusal → Type 0
+abbrev pub Takes : List ℕ → ℕ → ℕ → Result (Option (Declaration × Bor (List ℕ))) Refusal → Type 0
 Takes bs at latest r = MatchResult r (λ n. TakesNext bs at latest n) (λ e. (f : ℕ) (s : Contents) → read_all (suc f) s at latest bs ≡ fault (number e) (offset e))

@@ -1,3 +1,4 @@
+pub mod Faults
 pub mod Holds
 pub mod Walks
 pub mod Items

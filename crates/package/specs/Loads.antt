@@ -7,7 +7,8 @@ use Rattle.layout.specs.Packages.{Keeps, encode, contents, read_all, read_packag
 use Rattle.package.specs.declared.contents.Contents.{Contents}
 use Rattle.package.specs.declared.held.Package.{Package}
 use Rattle.package.specs.declared.refusal.Refusal.{Refusal}
-use Rattle.package.specs.Holds.{number, Refused}
+use Rattle.package.specs.Faults.{number}
+use Rattle.package.specs.Holds.{Refused}
 use Rattle.package.specs.Declares.{contents_of}
 
 -- the declarations of an accepted package

@@ -5,12 +5,12 @@ ghost use Rattle.layout.specs.Layout.{command_bytes, choose as flat_choose, choi
 ghost use Rattle.layout.specs.Scope.{turns as flat_turns, named, targets, low, blocks as block_count, plain_named, plain_targets, place as is_place, table as is_table, device as is_device, cell as is_cell};
 ghost use Rattle.layout.specs.Limits.{Kept};
 ghost use Rattle.layout.specs.Declarations.{heights_of, steps_of};
-ghost use Rattle.commands.specs.Reads.{plain_of, flat_of, unread as unread_number};
-ghost use Rattle.package.specs.Holds.{number, offset, scope_of, Decides};
+ghost use Rattle.commands.specs.Reads.{plain_of, flat_of};
+ghost use Rattle.package.specs.Holds.{scope_of, Decides};
 ghost use Rattle.package.specs.Walks.{capped, WalksOne, WalksAll, WalksBlock, WalksBody};
 
-use super::refusal::Refusal;
-use commands::{Command, Plain, Unread, decode};
+use super::refusal::{Fault, Refusal};
+use commands::{Command, Plain, decode};
 use layout::{Procedure, Span};
 
 // What the commands of a body may name: so many places, tables and devices, and the procedures declared before it.
@@ -24,9 +24,11 @@ pub(crate) struct Scope<'a> {
     pub(crate) procedures: &'a [Procedure],
 }
 
-// How deep a block lies, and how many blocks are counted and not yet entered.
+// Where commands lie: what they may name, how deep their block is, and how many blocks are counted and not yet entered.
+// That the depth is at most 8 stands with each function: a literal of a struct with a ghost field may not say `..nest`.
 #[derive(Clone, Copy)]
-struct Nest {
+struct Nest<'a> {
+    scope: Scope<'a>,
     depth: u8,
     waiting: usize,
 }
@@ -70,13 +72,13 @@ fn plain_declared<'a>(plain: Plain, scope: Scope<'a>) -> bool
     ensures { result ≡ plain_named (scope_of scope.entry) (plain_of plain) }
 {
     match plain {
-        Plain::Set { target, value: _ } => scope.has_place(target),
+        Plain::Set { target, .. } => scope.has_place(target),
         Plain::Copy { target, source } => scope.has_place(target) && scope.has_place(source),
         Plain::Combine {
-            operation: _,
             target,
             left,
             right,
+            ..
         } => scope.has_place(target) && scope.has_place(left) && scope.has_place(right),
         Plain::Pick {
             target,
@@ -98,24 +100,11 @@ fn declared<'a, 'b>(command: Command<'a>, scope: Scope<'b>) -> bool
 {
     match command {
         Command::Plain(plain) => plain_declared(plain, scope),
-        Command::When {
-            place,
-            first: _,
-            second: _,
-        } => scope.has_place(place),
-        Command::Loop {
-            place,
-            times: _,
-            body: _,
-        } => scope.has_place(place),
-        Command::Grant { frame: _, body: _ } => true,
+        Command::When { place, .. } => scope.has_place(place),
+        Command::Loop { place, .. } => scope.has_place(place),
+        Command::Grant { .. } => true,
         Command::Call { procedure } => usize::from(procedure) < scope.procedures.len(),
-        Command::Try {
-            frame: _,
-            place,
-            first: _,
-            second: _,
-        } => scope.has_place(place),
+        Command::Try { place, .. } => scope.has_place(place),
     }
 }
 
@@ -124,28 +113,12 @@ fn plain_spares_inputs<'a>(plain: Plain, scope: Scope<'a>) -> bool
     ensures { result ≡ plain_targets (scope_of scope.entry) (plain_of plain) }
 {
     match plain {
-        Plain::Set { target, value: _ } => scope.is_no_input(target),
-        Plain::Copy { target, source: _ } => scope.is_no_input(target),
-        Plain::Combine {
-            operation: _,
-            target,
-            left: _,
-            right: _,
-        } => scope.is_no_input(target),
-        Plain::Pick {
-            target,
-            table: _,
-            index: _,
-        } => scope.is_no_input(target),
-        Plain::Put {
-            table: _,
-            index: _,
-            source: _,
-        } => true,
-        Plain::Drive {
-            device: _,
-            source: _,
-        } => true,
+        Plain::Set { target, .. } => scope.is_no_input(target),
+        Plain::Copy { target, .. } => scope.is_no_input(target),
+        Plain::Combine { target, .. } => scope.is_no_input(target),
+        Plain::Pick { target, .. } => scope.is_no_input(target),
+        Plain::Put { .. } => true,
+        Plain::Drive { .. } => true,
     }
 }
 
@@ -164,11 +137,7 @@ fn turns<'a>(command: Command<'a>) -> bool
     ensures { result ≡ flat_turns (flat_of command.entry) }
 {
     match command {
-        Command::Loop {
-            place: _,
-            times,
-            body: _,
-        } => times != 0,
+        Command::Loop { times, .. } => times != 0,
         _ => true,
     }
 }
@@ -177,10 +146,9 @@ fn turns<'a>(command: Command<'a>) -> bool
 fn height(procedures: &[Procedure], procedure: u8) -> u8
     ensures { result ≡ slice_index (heights_of procedures.now) procedure }
 {
-    match procedures.get(usize::from(procedure)) {
-        Some(callee) => callee.height,
-        None => 0,
-    }
+    procedures
+        .get(usize::from(procedure))
+        .map_or(0, |callee| callee.height)
 }
 
 // Whether a command's blocks are nested at most 8 deep, and a procedure that makes this call is at most 8 high.
@@ -189,24 +157,11 @@ fn reaches<'a, 'b>(command: Command<'a>, scope: Scope<'b>, depth: u8) -> bool
 {
     match command {
         Command::Plain(_) => true,
-        Command::When {
-            place: _,
-            first: _,
-            second: _,
-        } => depth < 8,
-        Command::Loop {
-            place: _,
-            times: _,
-            body: _,
-        } => depth < 8,
-        Command::Grant { frame: _, body: _ } => depth < 8,
+        Command::When { .. } => depth < 8,
+        Command::Loop { .. } => depth < 8,
+        Command::Grant { .. } => depth < 8,
         Command::Call { procedure } => height(scope.procedures, procedure) < 8,
-        Command::Try {
-            frame: _,
-            place: _,
-            first: _,
-            second: _,
-        } => depth < 8,
+        Command::Try { .. } => depth < 8,
     }
 }
 
@@ -216,24 +171,11 @@ fn count<'a>(command: Command<'a>) -> usize
 {
     match command {
         Command::Plain(_) => 0,
-        Command::When {
-            place: _,
-            first: _,
-            second: _,
-        } => 2,
-        Command::Loop {
-            place: _,
-            times: _,
-            body: _,
-        } => 1,
-        Command::Grant { frame: _, body: _ } => 1,
-        Command::Call { procedure: _ } => 0,
-        Command::Try {
-            frame: _,
-            place: _,
-            first: _,
-            second: _,
-        } => 2,
+        Command::When { .. } => 2,
+        Command::Loop { .. } => 1,
+        Command::Grant { .. } => 1,
+        Command::Call { .. } => 0,
+        Command::Try { .. } => 2,
     }
 }
 
@@ -249,22 +191,12 @@ fn first_fault<'a, 'b>(
     ensures { (n q : ℕ) → n + q ≡ counted → Decides (scope_of scope.entry) (flat_of command.entry) at depth n q result }
 {
     match command {
-        _ if !turns(command) => Err(Refusal::PastEnd(at)),
-        _ if !declared(command, scope) => Err(Refusal::NotDeclared(at)),
-        _ if !spares_inputs(command, scope) => Err(Refusal::InputAsTarget(at)),
-        _ if !reaches(command, scope, depth) => Err(Refusal::TooDeep(at)),
-        _ if counted + count(command) > 256 => Err(Refusal::OverLimit(at)),
+        _ if !turns(command) => Err(Refusal::Fault(Fault::PastEnd, at)),
+        _ if !declared(command, scope) => Err(Refusal::Fault(Fault::NotDeclared, at)),
+        _ if !spares_inputs(command, scope) => Err(Refusal::Fault(Fault::InputAsTarget, at)),
+        _ if !reaches(command, scope, depth) => Err(Refusal::Fault(Fault::TooDeep, at)),
+        _ if counted + count(command) > 256 => Err(Refusal::Fault(Fault::OverLimit, at)),
         _ => Ok(()),
-    }
-}
-
-// The refusal of bytes that are no command.
-fn unreadable(unread: Unread, at: usize) -> Refusal
-    ensures { (number result ≡ unread_number unread) × (offset result ≡ at) }
-{
-    match unread {
-        Unread::NoSuchByte => Refusal::NoSuchByte(at),
-        Unread::PastEnd => Refusal::PastEnd(at),
     }
 }
 
@@ -272,15 +204,10 @@ fn unreadable(unread: Unread, at: usize) -> Refusal
 fn call(procedures: &[Procedure], procedure: u8) -> Cost
     ensures { (result.steps ≡ capped (1 + slice_index (steps_of procedures.now) procedure)) × (result.highest ≡ slice_index (heights_of procedures.now) procedure) }
 {
-    match procedures.get(usize::from(procedure)) {
-        Some(callee) => Cost {
-            steps: callee.steps.saturating_add(1),
-            highest: callee.height,
-        },
-        None => Cost {
-            steps: 1,
-            highest: 0,
-        },
+    let callee = procedures.get(usize::from(procedure));
+    Cost {
+        steps: callee.map_or(0, |callee| callee.steps).saturating_add(1),
+        highest: callee.map_or(0, |callee| callee.height),
     }
 }
 
@@ -303,18 +230,17 @@ impl Drop for EndGuard<'_> {
 #[cycle(walk)]
 fn block<'a>(
     bytes: &[u8],
-    scope: Scope<'a>,
     at: usize,
     end: &mut usize,
-    nest: Nest,
+    nest: Nest<'a>,
     blocks: &mut Vec<Span>,
 ) -> Result<Cost, Refusal>
     requires fits { at + length bytes.now < 2 ^ 64 }
     requires few { vec_len blocks.old + 1 + nest.waiting ≤ 256 }
     requires deep { nest.depth ≤ 8 }
     ensures back { end.new ≡ end.old }
-    ensures few { vec_len blocks.new + nest.waiting ≤ 256 }
-    ensures walks { WalksBlock (scope_of scope.entry) bytes.now at nest.depth nest.waiting blocks.old.items blocks.new.items result }
+    ensures few { vec_len blocks.new + nest.entry.waiting ≤ 256 }
+    ensures walks { WalksBlock (scope_of nest.entry.scope) bytes.now at nest.entry.depth nest.entry.waiting blocks.old.items blocks.new.items result }
 {
     let guard = EndGuard {
         outer: *end,
@@ -322,17 +248,12 @@ fn block<'a>(
     };
     *guard.end = at + bytes.len();
     let number = blocks.len();
-    if blocks
-        .push(Span {
-            start: at,
-            length: bytes.len(),
-            inside: 0,
-        })
-        .is_err()
-    {
-        return Err(Refusal::Memory);
-    }
-    let cost = check(bytes, scope, guard.end, nest, blocks)?;
+    blocks.push(Span {
+        start: at,
+        length: bytes.len(),
+        inside: 0,
+    })?;
+    let cost = check(bytes, guard.end, nest, blocks)?;
     let inside = blocks.len() - number - 1;
     blocks[number] = Span {
         start: at,
@@ -347,40 +268,36 @@ fn block<'a>(
 fn choose<'a>(
     first: &[u8],
     second: &[u8],
-    scope: Scope<'a>,
     start: usize,
     end: &mut usize,
-    nest: Nest,
+    nest: Nest<'a>,
     blocks: &mut Vec<Span>,
 ) -> Result<Cost, Refusal>
     requires fits { start + length first.now + length second.now < 2 ^ 64 }
     requires few { vec_len blocks.old + 2 + nest.waiting ≤ 256 }
     requires deep { nest.depth < 8 }
     ensures back { end.new ≡ end.old }
-    ensures few { vec_len blocks.new + nest.waiting ≤ 256 }
-    ensures walks { (c : Choice) (at : ℕ) → at + choice_head c ≡ start → Kept (scope_of scope.entry) nest.depth (flat_choose c first.now second.now) → WalksOne (scope_of scope.entry) (flat_choose c first.now second.now) at nest.depth nest.waiting blocks.old.items blocks.new.items result }
+    ensures few { vec_len blocks.new + nest.entry.waiting ≤ 256 }
+    ensures walks { (c : Choice) (at : ℕ) → at + choice_head c ≡ start → Kept (scope_of nest.entry.scope) nest.entry.depth (flat_choose c first.now second.now) → WalksOne (scope_of nest.entry.scope) (flat_choose c first.now second.now) at nest.entry.depth nest.entry.waiting blocks.old.items blocks.new.items result }
 {
     let depth = nest.depth + 1;
+    let waiting = nest.waiting + 1;
     let one = block(
         first,
-        scope,
         start,
         end,
         Nest {
             depth,
-            waiting: nest.waiting + 1,
+            waiting,
+            ..nest
         },
         blocks,
     )?;
     let other = block(
         second,
-        scope,
         start + first.len(),
         end,
-        Nest {
-            depth,
-            waiting: nest.waiting,
-        },
+        Nest { depth, ..nest },
         blocks,
     )?;
     Ok(Cost {
@@ -417,56 +334,43 @@ fn granted(under: Cost) -> Cost
 #[cycle(walk)]
 fn step<'a, 'b>(
     command: Command<'a>,
-    scope: Scope<'b>,
     at: usize,
     end: &mut usize,
-    nest: Nest,
+    nest: Nest<'b>,
     blocks: &mut Vec<Span>,
 ) -> Result<Cost, Refusal>
     requires fits { at + length (command_bytes (flat_of command)) < 2 ^ 64 }
     requires few { vec_len blocks.old + nest.waiting ≤ 256 }
     requires deep { nest.depth ≤ 8 }
     ensures back { end.new ≡ end.old }
-    ensures few { vec_len blocks.new + nest.waiting ≤ 256 }
-    ensures walks { WalksOne (scope_of scope.entry) (flat_of command.entry) at nest.depth nest.waiting blocks.old.items blocks.new.items result }
+    ensures few { vec_len blocks.new + nest.entry.waiting ≤ 256 }
+    ensures walks { WalksOne (scope_of nest.entry.scope) (flat_of command.entry) at nest.entry.depth nest.entry.waiting blocks.old.items blocks.new.items result }
 {
-    first_fault(command, scope, at, nest.depth, blocks.len() + nest.waiting)?;
-    let inner = Nest {
-        depth: nest.depth + 1,
-        waiting: nest.waiting,
-    };
+    first_fault(
+        command,
+        nest.scope,
+        at,
+        nest.depth,
+        blocks.len() + nest.waiting,
+    )?;
     match command {
         Command::Plain(_) => Ok(Cost {
             steps: 1,
             highest: 0,
         }),
-        Command::When { first, second, .. } => choose(
-            first,
-            second,
-            scope,
-            at + 6,
-            end,
-            nest,
-            blocks,
-        ),
+        Command::When { first, second, .. } => choose(first, second, at + 6, end, nest, blocks),
         Command::Loop { times, body, .. } => {
-            let turn = block(body, scope, at + 5, end, inner, blocks)?;
+            let depth = nest.depth + 1;
+            let turn = block(body, at + 5, end, Nest { depth, ..nest }, blocks)?;
             Ok(repeated(turn, times))
         }
         Command::Grant { body, .. } => {
-            let under = block(body, scope, at + 11, end, inner, blocks)?;
+            let depth = nest.depth + 1;
+            let under = block(body, at + 11, end, Nest { depth, ..nest }, blocks)?;
             Ok(granted(under))
         }
-        Command::Call { procedure } => Ok(call(scope.procedures, procedure)),
-        Command::Try { first, second, .. } => choose(
-            first,
-            second,
-            scope,
-            at + 14,
-            end,
-            nest,
-            blocks,
-        ),
+        Command::Call { procedure } => Ok(call(nest.scope.procedures, procedure)),
+        Command::Try { first, second, .. } => choose(first, second, at + 14, end, nest, blocks),
     }
 }
 
@@ -474,17 +378,16 @@ fn step<'a, 'b>(
 #[cycle(walk)]
 fn check<'a>(
     bytes: &[u8],
-    scope: Scope<'a>,
     end: &mut usize,
-    nest: Nest,
+    nest: Nest<'a>,
     blocks: &mut Vec<Span>,
 ) -> Result<Cost, Refusal>
     requires ends { length bytes.now ≤ end.old }
     requires few { vec_len blocks.old + nest.waiting ≤ 256 }
     requires deep { nest.depth ≤ 8 }
     ensures back { end.new ≡ end.old }
-    ensures few { vec_len blocks.new + nest.waiting ≤ 256 }
-    ensures walks { WalksAll (scope_of scope.entry) bytes.now (end.old - length bytes.now) nest.depth nest.waiting blocks.old.items blocks.new.items result }
+    ensures few { vec_len blocks.new + nest.entry.waiting ≤ 256 }
+    ensures walks { WalksAll (scope_of nest.entry.scope) bytes.now (end.old - length bytes.now) nest.entry.depth nest.entry.waiting blocks.old.items blocks.new.items result }
 {
     let mut rest = bytes;
     let mut steps = 0u64;
@@ -493,9 +396,9 @@ fn check<'a>(
         let at = *end - rest.len();
         let (command, after) = match decode(rest) {
             Ok(read) => read,
-            Err(unread) => return Err(unreadable(unread, at)),
+            Err(unread) => return Err(Refusal::Fault(Fault::from(unread), at)),
         };
-        let cost = step(command, scope, at, end, nest, blocks)?;
+        let cost = step(command, at, end, nest, blocks)?;
         steps = steps.saturating_add(cost.steps);
         highest = highest.max(cost.highest);
         rest = after;
@@ -516,15 +419,10 @@ pub(crate) fn body<'a>(
     ensures walks { WalksBody (scope_of scope.entry) bytes.now at blocks.old.items blocks.new.items result }
 {
     let mut end = at + bytes.len();
-    block(
-        bytes,
+    let nest = Nest {
         scope,
-        at,
-        &mut end,
-        Nest {
-            depth: 0,
-            waiting: 0,
-        },
-        blocks,
-    )
+        depth: 0,
+        waiting: 0,
+    };
+    block(bytes, at, &mut end, nest, blocks)
 }

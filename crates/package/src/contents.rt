@@ -8,7 +8,7 @@ use std::alloc::{AllocError, Global};
 
 // The declarations of a package by their sorts, each numbered from 0 in its order.
 // Inputs and cells stand in one row of places, the inputs first.
-#[derive(Drop)]
+#[derive(Clone, Drop)]
 pub struct Contents {
     // The frame of each party: the rights that it holds.
     pub parties: Vec<u64>,
@@ -42,23 +42,6 @@ impl Contents {
             blocks: Vec::new(heap),
             steps: 0,
         }
-    }
-
-    // The same declarations once more.
-    pub(crate) fn copy(&self, heap: Global) -> Result<Contents, AllocError>
-        ensures { IfOk result (λ c. contents_of c ≡ contents_of self.now) }
-    {
-        Ok(Contents {
-            parties: Vec::from_slice(heap, &self.parties)?,
-            inputs: Vec::from_slice(heap, &self.inputs)?,
-            cells: Vec::from_slice(heap, &self.cells)?,
-            tables: Vec::from_slice(heap, &self.tables)?,
-            needs: Vec::from_slice(heap, &self.needs)?,
-            procedures: Vec::from_slice(heap, &self.procedures)?,
-            entries: Vec::from_slice(heap, &self.entries)?,
-            blocks: Vec::from_slice(heap, &self.blocks)?,
-            steps: self.steps,
-        })
     }
 
     // How many places there are.

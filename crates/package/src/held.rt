@@ -31,13 +31,16 @@ impl Package {
     {
         &self.contents
     }
+}
 
-    // The same package once more, with bytes and contents of its own.
-    pub fn copy(&self, heap: Global) -> Result<Package, AllocError>
-        ensures { IfOk result (λ p. (p.bytes.items ≡ self.now.bytes.items) × (contents_of p.contents ≡ contents_of self.now.contents)) }
-    {
-        let bytes = Vec::from_slice(heap, &self.bytes)?;
-        let contents = self.contents.copy(heap)?;
-        Ok(Package { bytes, contents })
+// The same package once more, with bytes and contents of its own.
+impl Clone for Package {
+    ghost is_clone = { λ p q. (q.bytes.items ≡ p.bytes.items) × (contents_of q.contents ≡ contents_of p.contents) };
+
+    fn clone(&self) -> Result<Package, AllocError> {
+        Ok(Package {
+            bytes: self.bytes.clone()?,
+            contents: self.contents.clone()?,
+        })
     }
 }

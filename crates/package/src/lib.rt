@@ -5,10 +5,10 @@ ghost use Rattle.std.specs.Prelude.{◌≡◌, ℕ, ◌+◌, ◌≤◌, length};
 ghost use Rattle.package.specs.Loads.{Loads, Exactly, Keeping, ReadsContents};
 
 use contents::Contents;
-use declarations::{Next, lead_of, take};
+use declarations::{lead_of, take};
 use held::Package;
 use loading::declare;
-use refusal::Refusal;
+use refusal::{Fault, Refusal};
 use std::alloc::Global;
 
 mod bodies;
@@ -29,14 +29,12 @@ fn read(heap: Global, bytes: &[u8]) -> Result<Contents, Refusal>
     let mut latest = 0u8;
     loop {
         let at = bytes.len() - rest.len();
-        match take(rest, at, latest)? {
-            Next::Finished => return Ok(contents),
-            Next::Declared(declaration, after) => {
-                declare(&mut contents, declaration, at)?;
-                latest = lead_of(declaration);
-                rest = after;
-            }
-        }
+        let Some((declaration, after)) = take(rest, at, latest)? else {
+            return Ok(contents);
+        };
+        declare(&mut contents, declaration, at)?;
+        latest = lead_of(declaration);
+        rest = after;
     }
 }
 
@@ -50,14 +48,9 @@ pub fn load(heap: Global, bytes: &[u8]) -> Result<Package, Refusal>
     ensures lawful { Keeping result }
 {
     if bytes.len() > LONGEST {
-        return Err(Refusal::TooLong(0));
+        return Err(Refusal::Fault(Fault::TooLong, 0));
     }
     let contents = read(heap, bytes)?;
-    match Vec::from_slice(heap, bytes) {
-        Ok(copy) => Ok(Package {
-            bytes: copy,
-            contents,
-        }),
-        Err(_) => Err(Refusal::Memory),
-    }
+    let bytes = Vec::from_slice(heap, bytes)?;
+    Ok(Package { bytes, contents })
 }

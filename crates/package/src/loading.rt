@@ -9,7 +9,7 @@ ghost use Rattle.package.specs.Declares.{contents_of, Passes, DecidesItem, Decla
 use super::bodies::{Scope, body as check_body};
 use super::contents::Contents;
 use super::declarations::Declaration;
-use super::refusal::Refusal;
+use super::refusal::{Fault, Refusal};
 use layout::{Procedure, Table};
 
 // Whether there is room for one more of its sort; a body is a block too.
@@ -17,14 +17,14 @@ fn has_room<'a>(declaration: Declaration<'a>, contents: &Contents) -> bool
     ensures { result ≡ room (contents_of contents.now) (item_of declaration.entry) }
 {
     match declaration {
-        Declaration::Party { frame: _ } => contents.parties.len() < 16,
+        Declaration::Party { .. } => contents.parties.len() < 16,
         Declaration::Input(_) => contents.places() < 128,
         Declaration::Cell(_) => contents.places() < 128,
         Declaration::Table(_) => contents.tables.len() < 16,
-        Declaration::Device { need: _ } => contents.needs.len() < 32,
-        Declaration::Procedure { party: _, body: _ } => contents.procedures.len() < 32
+        Declaration::Device { .. } => contents.needs.len() < 32,
+        Declaration::Procedure { .. } => contents.procedures.len() < 32
             && contents.blocks.len() < 256,
-        Declaration::Entry { procedure: _ } => contents.entries.len() < 32,
+        Declaration::Entry { .. } => contents.entries.len() < 32,
     }
 }
 
@@ -42,12 +42,12 @@ fn is_known<'a>(declaration: Declaration<'a>, contents: &Contents) -> bool
     ensures { result ≡ known (contents_of contents.now) (item_of declaration.entry) }
 {
     match declaration {
-        Declaration::Party { frame: _ } => true,
+        Declaration::Party { .. } => true,
         Declaration::Input(input) => usize::from(input.party) < contents.parties.len(),
         Declaration::Cell(_) => true,
         Declaration::Table(table) => holds_cells(table, contents),
-        Declaration::Device { need: _ } => true,
-        Declaration::Procedure { party, body: _ } => usize::from(party) < contents.parties.len(),
+        Declaration::Device { .. } => true,
+        Declaration::Procedure { party, .. } => usize::from(party) < contents.parties.len(),
         Declaration::Entry { procedure } => usize::from(procedure) < contents.procedures.len(),
     }
 }
@@ -71,9 +71,9 @@ fn first_fault<'a>(
     ensures { DecidesItem (contents_of contents.now) (item_of declaration.entry) at result }
 {
     match declaration {
-        _ if !has_room(declaration, contents) => Err(Refusal::OverLimit(at)),
-        _ if !is_known(declaration, contents) => Err(Refusal::NotDeclared(at)),
-        _ if !is_filled(declaration) => Err(Refusal::PastEnd(at)),
+        _ if !has_room(declaration, contents) => Err(Refusal::Fault(Fault::OverLimit, at)),
+        _ if !is_known(declaration, contents) => Err(Refusal::Fault(Fault::NotDeclared, at)),
+        _ if !is_filled(declaration) => Err(Refusal::Fault(Fault::PastEnd, at)),
         _ => Ok(()),
     }
 }
@@ -82,10 +82,8 @@ fn first_fault<'a>(
 fn add<T: Drop>(items: &mut Vec<T>, item: T) -> Result<(), Refusal>
     ensures { MatchResult result (λ _. items.new.items ≡ items.old.items ++ (item ∷ [])) (λ e. e ≡ Refusal.Memory) }
 {
-    match items.push(item) {
-        Ok(()) => Ok(()),
-        Err(_) => Err(Refusal::Memory),
-    }
+    items.push(item)?;
+    Ok(())
 }
 
 // A procedure that has passed its own checks: its body, then its steps.
@@ -107,7 +105,7 @@ fn add_procedure(contents: &mut Contents, party: u8, body: &[u8], at: usize) -> 
     };
     let cost = check_body(body, scope, at + 4, &mut contents.blocks)?;
     if cost.steps > 1_000_000 {
-        return Err(Refusal::TooManySteps(at));
+        return Err(Refusal::Fault(Fault::TooManySteps, at));
     }
     let procedure = Procedure {
         party,
@@ -127,7 +125,7 @@ fn add_entry(contents: &mut Contents, procedure: u8, at: usize) -> Result<(), Re
     let body = contents.procedures[usize::from(procedure)].steps;
     let steps = contents.steps.saturating_add(1).saturating_add(body);
     if steps > 1_000_000 {
-        return Err(Refusal::TooManySteps(at));
+        return Err(Refusal::Fault(Fault::TooManySteps, at));
     }
     contents.steps = steps;
     add(&mut contents.entries, procedure)

@@ -5,12 +5,6 @@ ghost use Rattle.std.specs.Prelude.{◌≡◌, take, drop};
 pub fn part(bytes: &[u8], start: usize, count: usize) -> &[u8]
     ensures { result.now ≡ take count (drop start bytes.now) }
 {
-    if start > bytes.len() {
-        return &[];
-    }
-    let (_, tail) = bytes.split_at(start);
-    if count > tail.len() {
-        return tail;
-    }
-    tail.split_at(count).0
+    let tail = bytes.get(start..).unwrap_or(&[]);
+    tail.get(..count).unwrap_or(tail)
 }

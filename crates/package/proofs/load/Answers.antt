@@ -16,7 +16,7 @@ returns-in_err-contents c =
 
 pub invariant_of-result : goal.invariant_of-result
 invariant_of-result c =
-    let copy = c.in-Ok.ensures.items in
+    let copy = c.in_ok-bytes.ensures.items in
     let h = c.in_ok-contents.ensures in
     let a = accepted c.args.bytes.now c.type_inv.bytes (omega (arith, c.if-bytes-gt-LONGEST.false)) h.all h.reads in
     let d = held_all c.args.bytes.now c.type_inv.bytes (omega (arith, c.if-bytes-gt-LONGEST.false)) h.all h.reads _ h.holds in
@@ -26,14 +26,14 @@ invariant_of-result c =
       declares = ∣ d ∙ ap held (sym copy) ∣₁;
     }
 
-pub returns-in-Ok : goal.returns-in-Ok
-returns-in-Ok c =
-    let copy : vec_items c.in-Ok.copy ≡ c.args.bytes.now = c.in-Ok.ensures.items in
+pub returns : goal.returns
+returns c =
+    let copy : vec_items c.in_ok-bytes.bytes ≡ c.args.bytes.now = c.in_ok-bytes.ensures.items in
     let h = c.in_ok-contents.ensures in
     let r = read_as c.args.bytes.now c.type_inv.bytes (omega (arith, c.if-bytes-gt-LONGEST.false)) h.all h.reads in
     let k = keeps c.args.bytes.now c.type_inv.bytes (omega (arith, c.if-bytes-gt-LONGEST.false)) h.all h.reads in
     record {
       reads = (copy, r ∙ ap (λ (xs : List ℕ). ok (declarations xs)) (sym copy));
       exactly = subst (λ (xs : List ℕ). Keeps (declarations xs) × (encode (declarations xs) ≡ c.args.bytes.now)) (sym copy) k;
-      lawful = lawful_bytes (vec_items c.in-Ok.copy) (subst (λ (xs : List ℕ). Keeps (declarations xs) × (encode (declarations xs) ≡ xs)) (sym copy) k);
+      lawful = lawful_bytes (vec_items c.in_ok-bytes.bytes) (subst (λ (xs : List ℕ). Keeps (declarations xs) × (encode (declarations xs) ≡ xs)) (sym copy) k);
     }

@@ -1,43 +1,17 @@
-use Rattle.std.proofs.Common.{◌≡◌, true, [], length, is_ok, Ok, Err, vec_items, refl, ap, ◌∙◌, arith, length-append, rules, true-eqb}
+use Rattle.std.proofs.Common.{◌≡◌, ◌-◌, true, [], length, is_ok, Ok, Err, vec_items, refl, ap, ◌∙◌, arith, length-append, rules, true-eqb}
 use Rattle.std.proofs.lemmas.Result.{err_from_is_err_and}
 use Rattle.std.proofs.lemmas.Bool.{cond-true, ltb-true}
 use Rattle.layout.specs.Tree.{when_place, try_frame}
 use Rattle.layout.specs.Layout.{Flat, command_bytes}
-use Rattle.commands.specs.Reads.{flat_of}
-use Rattle.package.proofs.Steps.{decided, walked_grows, block_walked, block_stops, carry_walks, walked_plain, walked_call, walked_loop, stops_loop, walked_grant, stops_grant, stops_first, stops_second, walked_choose}
+use Rattle.commands.specs.declared.Unread.{Unread}
+use Rattle.commands.specs.declared.Unread.TheVariants.{NoSuchByte, PastEnd}
+use Rattle.commands.specs.Reads.{flat_of, unread}
+use Rattle.package.specs.declared.refusal.Fault.{Fault}
+use Rattle.package.specs.declared.refusal.Refusal.TheVariants as refusal
+use Rattle.package.specs.Faults.{fault_number, fault_of}
+use Rattle.package.proofs.Steps.{decided, block_walked, carry_walks, walked_plain, walked_call, walked_loop, stops_loop, walked_grant, stops_grant, stops_second, walked_choose}
 use Rattle.package.proofs.Turns.{bytes_all, took_off, going_start, going_end, going_bad, going_stops, going_on}
 use Rattle.package.proofs.bodies.+walk.Goals as goal
-
-pub block-returns-in_err-cost : goal.block-returns-in_err-cost
-block-returns-in_err-cost t c =
-    let okay : is_ok c.push.result ≡ true = search rules in
-    let p = err_from_is_err_and c.from_residual.result c.from_residual.ensures.1 in
-    record {
-      back = search rules;
-      few = c.check.ensures.few;
-      walks = rw (p.1, p.2) (block_stops _ _ _ _ _ _ (vec_items c.args.blocks.now) _ _ (omega arith) (c.push.ensures.items ∙ cond-true _ _ _ okay) _ c.in_err-cost.ensures.walks);
-    }
-
-pub block-overflow_sub-inside : goal.block-overflow_sub-inside
-block-overflow_sub-inside t c =
-    let okay : is_ok c.push.result ≡ true = search rules in
-    let h = walked_grows _ _ _ _ _ _ _ _ c.in_ok-cost.ensures.walks in
-    let l = c.push.ensures.len ∙ cond-true _ _ _ okay in
-    omega (arith, l, c.push.new.self.ok.0, c.check.new.blocks.ok.0)
-
-pub block-overflow_sub-inside-2 : goal.block-overflow_sub-inside-2
-block-overflow_sub-inside-2 t c =
-    let okay : is_ok c.push.result ≡ true = search rules in
-    let h = walked_grows _ _ _ _ _ _ _ _ c.in_ok-cost.ensures.walks in
-    let l = c.push.ensures.len ∙ cond-true _ _ _ okay in
-    omega (arith, l, c.push.new.self.ok.0, c.check.new.blocks.ok.0)
-
-pub block-index_mut-requires : goal.block-index_mut-requires
-block-index_mut-requires t c =
-    let okay : is_ok c.push.result ≡ true = search rules in
-    let h = walked_grows _ _ _ _ _ _ _ _ c.in_ok-cost.ensures.walks in
-    let l = c.push.ensures.len ∙ cond-true _ _ _ okay in
-    omega (arith, l, c.push.new.self.ok.0, c.check.new.blocks.ok.0)
 
 pub block-returns : goal.block-returns
 block-returns t c =
@@ -51,12 +25,17 @@ block-returns t c =
 pub check-loop-rest-init : goal.check-loop-rest-init
 check-loop-rest-init t c = (search rules, search rules, search rules, going_start _ _ _ _ _ _ (bytes_all _ c.type_inv.bytes))
 
+-- the fault of bytes that are no command has the number that reading them gives
+told : (u : Unread) (f : Fault) → f ≡ fault_of u → fault_number f ≡ unread u
+told NoSuchByte f e = ap fault_number e
+told PastEnd f e = ap fault_number e
+
 pub check-returns-in-Err : goal.check-returns-in-Err
 check-returns-in-Err t c =
     record {
       back = c.loop-rest.invariant.0;
       few = c.loop-rest.invariant.1;
-      walks = going_bad c.loop-rest.invariant.3 _ c.unreadable.result (search rules) c.in-Err.ensures c.unreadable.ensures.0 c.unreadable.ensures.1;
+      walks = going_bad c.loop-rest.invariant.3 _ (refusal.Fault c.from.result (c.loop-rest.end - length c.loop-rest.rest.now)) (search rules) c.in-Err.ensures (told c.in-Err.unread c.from.result c.from.ensures) refl;
     }
 
 pub check-step-requires : goal.check-step-requires
@@ -93,15 +72,6 @@ check-returns t c =
       back = c.loop-rest.invariant.0;
       few = c.loop-rest.invariant.1;
       walks = going_end c.loop-rest.invariant.3 _ refl refl (true-eqb _ 0 c.loop-rest-test.ensures);
-    }
-
-pub choose-returns-in_err-one : goal.choose-returns-in_err-one
-choose-returns-in_err-one t c =
-    let p = err_from_is_err_and c.from_residual.result c.from_residual.ensures.1 in
-    record {
-      back = c.block.ensures.back;
-      few = omega (arith, c.block.ensures.few);
-      walks = λ x at head kept. rw (p.1, p.2) (stops_first _ at _ _ _ x _ _ _ head kept (omega (arith, c.args.blocks.now.ok.0)) _ c.in_err-one.ensures.walks);
     }
 
 pub choose-returns-in_err-other : goal.choose-returns-in_err-other

@@ -22,7 +22,7 @@ invariant-check-loop-rest l =
     (l.end ≡ l.initial.end)
     × (vec_len l.blocks + l.nest.waiting ≤ 256)
     × (length l.rest ≤ length l.bytes)
-    × Going (scope_of l.scope) l.bytes (l.initial.end - length l.bytes) l.nest.depth l.nest.waiting (vec_items l.initial.blocks) l.rest (l.end - length l.rest) (vec_items l.blocks) l.steps l.highest
+    × Going (scope_of l.nest.scope) l.bytes (l.initial.end - length l.bytes) l.nest.depth l.nest.waiting (vec_items l.initial.blocks) l.rest (l.end - length l.rest) (vec_items l.blocks) l.steps l.highest
 
 abbrev pub decreases-check-loop-rest : goal.decreases-check-loop-rest
 decreases-check-loop-rest l = length l.rest

@@ -1,26 +1,23 @@
-use Rattle.std.proofs.Common.{◌∙◌, arith, rules}
+use Rattle.std.proofs.Common.{refl, ◌∙◌, arith, rules}
 use Rattle.std.proofs.lemmas.Bool.Decides.{nat_tests}
 use Rattle.commands.proofs.Rest.{rest_all, some_byte}
 use Rattle.package.proofs.Leads.{at_lead, short_item, item_as}
 use Rattle.package.proofs.declarations.decode_declaration.Goals as goal
 
 pub returns-in-129 : goal.returns-in-129
-returns-in-129 c least top = at_lead c.args.bytes.now 129 (search rules) ∙ grind (arith, nat_tests, rest_all 9 c.args.bytes.now, c.number64-frame-in-129.ensures)
+returns-in-129 c least top = at_lead c.args.bytes.now 129 (search rules) ∙ grind (arith, nat_tests, rest_all 9 c.args.bytes.now)
 
 pub returns-in-130 : goal.returns-in-130
-returns-in-130 c least top = at_lead c.args.bytes.now 130 (search rules) ∙ grind (arith, nat_tests, rest_all 6 c.args.bytes.now, c.number32-value-in-130.ensures)
-
-pub returns-in-131 : goal.returns-in-131
-returns-in-131 c least top = at_lead c.args.bytes.now 131 (search rules) ∙ grind (arith, nat_tests, rest_all 13 c.args.bytes.now, c.number32-value.ensures, c.number64-frame.ensures)
+returns-in-130 c least top = at_lead c.args.bytes.now 130 (search rules) ∙ grind (arith, nat_tests, rest_all 6 c.args.bytes.now)
 
 pub returns-in-132 : goal.returns-in-132
-returns-in-132 c least top = at_lead c.args.bytes.now 132 (search rules) ∙ grind (arith, nat_tests, rest_all 3 c.args.bytes.now, c.table.ensures)
+returns-in-132 c least top = at_lead c.args.bytes.now 132 (search rules) ∙ grind (arith, nat_tests, rest_all 3 c.args.bytes.now)
 
 pub returns-in-133 : goal.returns-in-133
-returns-in-133 c least top = at_lead c.args.bytes.now 133 (search rules) ∙ grind (arith, nat_tests, rest_all 9 c.args.bytes.now, c.number64-need.ensures)
+returns-in-133 c least top = at_lead c.args.bytes.now 133 (search rules) ∙ grind (arith, nat_tests, rest_all 9 c.args.bytes.now)
 
 pub returns-in-134 : goal.returns-in-134
-returns-in-134 c least top = item_as c.args.bytes.now _ _ (at_lead c.args.bytes.now 134 (search rules)) (search rules) c.number16.ensures (rest_all 4 c.args.bytes.now) c.procedure.result c.procedure.ensures
+returns-in-134 c least top = item_as c.args.bytes.now _ _ (at_lead c.args.bytes.now 134 (search rules)) (search rules) refl (rest_all 4 c.args.bytes.now) c.procedure.result c.procedure.ensures
 
 pub returns-in-135 : goal.returns-in-135
 returns-in-135 c least top = at_lead c.args.bytes.now 135 (search rules) ∙ grind (arith, nat_tests, rest_all 2 c.args.bytes.now)
