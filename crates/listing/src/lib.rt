@@ -20,6 +20,7 @@ pub mod lines;
 pub mod refusals;
 pub mod rows;
 pub mod steps;
+mod texts;
 
 // Lists the places, the inputs first.
 fn list_places(lines: &mut Vec<Line>, contents: &Contents) -> Result<(), AllocError>

@@ -5,7 +5,9 @@ ghost use Rattle.package.specs.Declares.{contents_of};
 
 use layout::Procedure;
 use package::contents::Contents;
+use package::refusal::Refusal;
 use std::alloc::{AllocError, Global};
+use std::fmt;
 
 // One step: reading starts; so many bytes were read; so much is declared; a procedure was checked; the package is
 // accepted, or refused.
@@ -20,7 +22,33 @@ pub enum Step {
     Checked { number: usize, procedure: Procedure },
     Entries { count: usize },
     Accepted { blocks: usize },
-    Refused { number: u8, offset: usize },
+    Refused(Refusal),
+}
+
+impl fmt::Display for Step {
+    fn fmt<W: fmt::Write>(&self, f: &mut fmt::Formatter<W>) -> fmt::Result {
+        match *self {
+            Step::Reading => f.write_str("reading a package from standard input"),
+            Step::Read { bytes } => write!(f, "read {bytes} bytes"),
+            Step::Parties { count } => write!(f, "parties: {count}"),
+            Step::Places { inputs, cells } => write!(f, "inputs: {inputs}, cells: {cells}"),
+            Step::Tables { count } => write!(f, "tables: {count}"),
+            Step::Devices { count } => write!(f, "devices: {count}"),
+            Step::Checked { number, procedure } => {
+                let (height, steps) = (procedure.height, procedure.steps);
+                write!(
+                    f,
+                    "procedure {number} checked: height {height}, at most {steps} steps"
+                )
+            }
+            Step::Entries { count } => write!(f, "entries: {count}"),
+            Step::Accepted { blocks } => write!(f, "accepted, with {blocks} blocks"),
+            Step::Refused(refusal) => {
+                let (number, offset) = (refusal.number(), refusal.offset());
+                write!(f, "refused: {number} at offset {offset}")
+            }
+        }
+    }
 }
 
 // The steps of loading a package, once it is accepted: what is declared, sort by sort, and each procedure.
