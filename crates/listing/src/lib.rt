@@ -12,13 +12,13 @@ use bodies::list_procedures;
 use lines::{Line, Sort};
 use package::contents::Contents;
 use package::held::Package;
-use rows::{Cells, Devices, Entries, Inputs, Parties, Tables, list, list_sort};
+use rows::{add_rows, list_sort};
 use std::alloc::{AllocError, Global};
 
 mod bodies;
 pub mod lines;
 pub mod refusals;
-pub mod rows;
+mod rows;
 pub mod steps;
 mod texts;
 
@@ -30,8 +30,19 @@ fn list_places(lines: &mut Vec<Line>, contents: &Contents) -> Result<(), AllocEr
         sort: Sort::Places,
         count: contents.places(),
     })?;
-    list::<Inputs>(lines, &contents.inputs, 0)?;
-    list::<Cells>(lines, &contents.cells, contents.inputs.len())
+    add_rows(
+        lines,
+        &contents.inputs,
+        0,
+        |number, input| Line::Input { number, input },
+    )?;
+    let first = contents.inputs.len();
+    add_rows(
+        lines,
+        &contents.cells,
+        first,
+        |number, cell| Line::Cell { number, cell },
+    )
 }
 
 // Lists the procedures with their bodies.
@@ -57,12 +68,32 @@ pub fn listing(heap: Global, held: &Package) -> Result<Vec<Line>, AllocError>
 {
     let contents = held.contents();
     let mut lines = Vec::new(heap);
-    list_sort::<Parties>(&mut lines, Sort::Parties, &contents.parties)?;
+    list_sort(
+        &mut lines,
+        Sort::Parties,
+        &contents.parties,
+        |number, frame| Line::Party { number, frame },
+    )?;
     list_places(&mut lines, contents)?;
-    list_sort::<Tables>(&mut lines, Sort::Tables, &contents.tables)?;
-    list_sort::<Devices>(&mut lines, Sort::Devices, &contents.needs)?;
+    list_sort(
+        &mut lines,
+        Sort::Tables,
+        &contents.tables,
+        |number, table| Line::Table { number, table },
+    )?;
+    list_sort(
+        &mut lines,
+        Sort::Devices,
+        &contents.needs,
+        |number, need| Line::Device { number, need },
+    )?;
     list_bodies(&mut lines, held)?;
-    list_sort::<Entries>(&mut lines, Sort::Entries, &contents.entries)?;
+    list_sort(
+        &mut lines,
+        Sort::Entries,
+        &contents.entries,
+        |number, procedure| Line::Entry { number, procedure },
+    )?;
     lines.push(Line::Cycle {
         steps: contents.steps,
     })?;

@@ -1,8 +1,9 @@
 // The steps of an inspection, told as they are taken.
-ghost use Rattle.std.specs.Prelude.{◌≡◌, [], ◌∷◌, ◌++◌, IfOk, OnOk};
-ghost use Rattle.listing.specs.Steps.{checked_all, told_steps};
+ghost use Rattle.std.specs.Prelude.{◌≡◌, IfOk};
+ghost use Rattle.listing.specs.Steps.{told_steps};
 ghost use Rattle.package.specs.Declares.{contents_of};
 
+use super::rows::add_rows;
 use layout::Procedure;
 use package::contents::Contents;
 use package::refusal::Refusal;
@@ -69,7 +70,12 @@ pub fn steps(heap: Global, contents: &Contents) -> Result<Vec<Step>, AllocError>
     told.push(Step::Devices {
         count: contents.needs.len(),
     })?;
-    tell_checked(&mut told, &contents.procedures)?;
+    add_rows(
+        &mut told,
+        &contents.procedures,
+        0,
+        |number, procedure| Step::Checked { number, procedure },
+    )?;
     told.push(Step::Entries {
         count: contents.entries.len(),
     })?;
@@ -77,19 +83,4 @@ pub fn steps(heap: Global, contents: &Contents) -> Result<Vec<Step>, AllocError>
         blocks: contents.blocks.len(),
     })?;
     Ok(told)
-}
-
-// A step for each procedure.
-fn tell_checked(told: &mut Vec<Step>, procedures: &[Procedure]) -> Result<(), AllocError>
-    ensures { OnOk result (told.new.items ≡ told.old.items ++ checked_all procedures.now) }
-{
-    let mut number = 0usize;
-    for procedure in procedures {
-        told.push(Step::Checked {
-            number,
-            procedure: *procedure,
-        })?;
-        number = number.saturating_add(1);
-    }
-    Ok(())
 }

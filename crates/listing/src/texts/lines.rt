@@ -118,7 +118,13 @@ impl fmt::Display for Line {
                 inputs,
                 action,
             } => {
-                let (indent, done) = (Indent(depth), Named { shown: action, inputs });
+                let (indent, done) = (
+                    Indent(depth),
+                    Named {
+                        shown: action,
+                        inputs,
+                    },
+                );
                 write!(f, "    {offset:>4}    {indent}{done}")
             }
             Line::Entry { number, procedure } => write!(
