@@ -1,5 +1,5 @@
 -- Numbered rows, by the library's words.
-use Rattle.std.proofs.Common.{◌≡◌, ℕ, ◌+◌, ◌<◌, ◌^◌, min, List, [], ◌∷◌, length, refl, ap, ◌∙◌, arith, map}
+use Rattle.std.proofs.Common.{◌≡◌, ℕ, ◌+◌, ◌<◌, ◌^◌, min, List, [], ◌∷◌, length, refl, ap, arith, map}
 use Rattle.std.specs.List.{enumerate_from}
 use Rattle.listing.specs.Numbered.{numbered}
 

@@ -46,8 +46,8 @@ fn list_places(lines: &mut Vec<Line>, contents: &Contents) -> Result<(), AllocEr
 }
 
 // Lists the procedures with their bodies.
-fn list_bodies(lines: &mut Vec<Line>, held: &Package) -> Result<(), AllocError>
-    ensures { OnOk result (lines.new.items ≡ lines.old.items ++ body_lines (contents_of (tree_of held.now)) (bodies_of (tree_of held.now))) }
+fn list_bodies(mut lines: Vec<Line>, held: &Package) -> Result<Vec<Line>, AllocError>
+    ensures { IfOk result (λ after. after.items ≡ lines.items ++ body_lines (contents_of (tree_of held.now)) (bodies_of (tree_of held.now))) }
 {
     let contents = held.contents();
     lines.push(Line::Heading {
@@ -87,7 +87,7 @@ pub fn listing(heap: Global, held: &Package) -> Result<Vec<Line>, AllocError>
         &contents.needs,
         |number, need| Line::Device { number, need },
     )?;
-    list_bodies(&mut lines, held)?;
+    let mut lines = list_bodies(lines, held)?;
     list_sort(
         &mut lines,
         Sort::Entries,

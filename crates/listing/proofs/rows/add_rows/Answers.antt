@@ -2,7 +2,6 @@ use Rattle.std.proofs.Common.{rules, ◌+◌, min, arith}
 use Rattle.std.proofs.lemmas.Iterator.{YieldsList-from_slice, YieldsList-from_map}
 use Rattle.std.proofs.lemmas.Iterator.Adapters.{items_from_extend}
 use Rattle.std.proofs.lemmas.Iterator.Consumers.{YieldsList-from_enumerate}
-use Rattle.std.proofs.lemmas.Result.{IfOk-weaker}
 use Rattle.listing.proofs.Numbering.{map-enumerate_from}
 use Rattle.listing.proofs.rows.add_rows.Goals as goal
 
