@@ -13,7 +13,7 @@ use wording::excerpts::Excerpt;
 // One byte more than any package has: what is longer is refused as such, and not cut.
 const MOST: u64 = 8193;
 
-fn tell_accepted(rt: &HostRuntime, held: &Package) -> anyhow::Result<()> {
+fn tell_accepted(rt: &(impl Print + AllocGlobal), held: &Package) -> anyhow::Result<()> {
     for step in steps(rt.alloc(), held.contents())?.iter() {
         println!(rt; "{step}")?;
     }
@@ -24,7 +24,7 @@ fn tell_accepted(rt: &HostRuntime, held: &Package) -> anyhow::Result<()> {
     Ok(())
 }
 
-fn tell_refused(rt: &HostRuntime, bytes: &[u8], refusal: Refusal) -> anyhow::Result<()> {
+fn tell_refused(rt: &impl Print, bytes: &[u8], refusal: Refusal) -> anyhow::Result<()> {
     let step = Step::Refused(refusal);
     let why = cause(refusal);
     let around = Excerpt {
@@ -40,8 +40,7 @@ fn tell_refused(rt: &HostRuntime, bytes: &[u8], refusal: Refusal) -> anyhow::Res
 fn main(rt: HostRuntime) -> anyhow::Result<()> {
     rt.println(Step::Reading)?;
     let mut bytes = Vec::new(rt.alloc());
-    let mut source = rt.stdin().take(MOST);
-    source.read_to_end(&mut bytes)?;
+    rt.stdin().take(MOST).read_to_end(&mut bytes)?;
     rt.println(Step::Read { bytes: bytes.len() })?;
     match load(rt.alloc(), &bytes) {
         Ok(held) => tell_accepted(&rt, &held),

@@ -56,7 +56,3 @@ listed_joined held x ps ns es ts l0 l1 l2 l3 l4 l5 l6 l7 same h0 p h1 h2 t h3 n 
     let all = all_joined l0 l1 l2 l3 l4 l5 l6 l7 _ _ _ _ _ _ _ h0 (h1 ∙ ap (λ (y : List ℕ). l0 ++ section Parties (λ n z. line.Party n z) y) p) h2 (h3 ∙ ap (λ (y : List Table). l2 ++ section Tables (λ n z. line.Table n z) y) t) (h4 ∙ ap (λ (y : List ℕ). l3 ++ section Devices (λ n z. line.Device n z) y) n) h5 (h6 ∙ ap (λ (y : List ℕ). l5 ++ section Entries (λ n z. line.Entry n z) y) e) h7 in
     subst (λ (k : Contents).
     l7 ≡ section Parties (λ n z. line.Party n z) k.parties ++ (place_lines k ++ (section Tables (λ n z. line.Table n z) k.tables ++ (section Devices (λ n z. line.Device n z) k.needs ++ (body_lines (contents (tree_of held)) (bodies (tree_of held)) ++ (section Entries (λ n z. line.Entry n z) k.entries ++ (line.Cycle k.steps ∷ []))))))) is all
-
--- the steps, one after another
-pub steps_joined : {X : Type 0} (l0 l1 l2 l3 l4 l5 l6 l7 m : List X) (a b c d e f : X) → l0 ≡ [] → l1 ≡ l0 ++ (a ∷ []) → l2 ≡ l1 ++ (b ∷ []) → l3 ≡ l2 ++ (c ∷ []) → l4 ≡ l3 ++ (d ∷ []) → l5 ≡ l4 ++ m → l6 ≡ l5 ++ (e ∷ []) → l7 ≡ l6 ++ (f ∷ []) → l7 ≡ a ∷ b ∷ c ∷ d ∷ (m ++ (e ∷ f ∷ []))
-steps_joined l0 l1 l2 l3 l4 l5 l6 l7 m a b c d e f h0 h1 h2 h3 h4 h5 h6 h7 = rw (h7, h6, h5, h4, h3, h2, h1, h0) (simp append_assoc)

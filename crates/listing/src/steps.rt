@@ -56,20 +56,21 @@ impl fmt::Display for Step {
 pub fn steps(heap: Global, contents: &Contents) -> Result<Vec<Step>, AllocError>
     ensures { IfOk result (λ v. v.items ≡ told_steps (contents_of contents.now)) }
 {
-    let mut told = Vec::new(heap);
-    told.push(Step::Parties {
-        count: contents.parties.len(),
-    })?;
-    told.push(Step::Places {
-        inputs: contents.inputs.len(),
-        cells: contents.cells.len(),
-    })?;
-    told.push(Step::Tables {
-        count: contents.tables.len(),
-    })?;
-    told.push(Step::Devices {
-        count: contents.needs.len(),
-    })?;
+    let mut told = vec![in heap;
+        Step::Parties {
+            count: contents.parties.len()
+        },
+        Step::Places {
+            inputs: contents.inputs.len(),
+            cells: contents.cells.len(),
+        },
+        Step::Tables {
+            count: contents.tables.len()
+        },
+        Step::Devices {
+            count: contents.needs.len()
+        },
+    ]?;
     add_rows(
         &mut told,
         &contents.procedures,
