@@ -37,7 +37,9 @@ module _ {i : ℕ} {bytes : List ℕ} {ps : List Procedure} {before : List Line}
   pub telling_end : length left ≡ 0 → TellsProcedures i bytes ps before (vec_items cur.lines)
   telling_end e c bs small h lie few =
       let l = so.tells c bs small h lie few in
-      l.told ∙ ap (λ (t : List Line). before ++ t) (sym (append-nil l.pre) ∙ ap (λ (t : List Line). l.pre ++ t) (sym (nothing left l.rest e)) ∙ l.whole)
+      let none = nothing left l.rest e in
+      let whole = l.whole in
+      rw (l.told, ← whole, none, append-nil)
     where
       nothing : (xs : List Procedure) (bs : List Block) → length xs ≡ 0 → procedure_lines i k xs bs ≡ []
       nothing [] bs z = refl
@@ -58,7 +60,6 @@ module _ {i : ℕ} {bytes : List ℕ} {ps : List Procedure} {before : List Line}
             let l = length-append (spans_block p.start b) (all_spans after rest) in
             let t = h.told (below c k) b (rw n law.0.body) (omega arith) (omega arith) (sym body) in
             let next : cur'.blocks ≡ cur.blocks + size_block b = omega (arith, t.blocks) in
-            let lines : List Line = line.Procedure k p ∷ block_lines mid.inputs 0 Body p.start b in
             record {
               rest = rest;
               pre = pre ++ (line.Procedure k p ∷ block_lines i 0 Body p.start b);
@@ -66,9 +67,8 @@ module _ {i : ℕ} {bytes : List ℕ} {ps : List Procedure} {before : List Line}
               lie = lie.1;
               few = omega arith;
               inputs = t.inputs ∙ j ∙ ins;
-              told = t.lines ∙ ap (λ (u : List Line). u ++ block_lines mid.inputs 0 Body p.start b) m ∙ append_assoc (vec_items cur.lines) (line.Procedure k p ∷ []) (block_lines mid.inputs 0 Body p.start b) ∙ ap (λ (u : List Line). u ++ lines) told ∙ append_assoc before pre lines
-                  ∙ ap (λ (x : ℕ). before ++ (pre ++ (line.Procedure k p ∷ block_lines x 0 Body p.start b))) (j ∙ ins);
-              whole = append_assoc pre (line.Procedure k p ∷ block_lines i 0 Body p.start b) (procedure_lines i (k + 1) after rest) ∙ whole;
+              told = rw (t.lines, m, told, j, ins) (simp append_assoc);
+              whole = rw append_assoc whole;
             }
 
         go : (c : Contents) (bs : List Block) → length bytes ≤ 8192 → Left i bytes ps before c bs left k cur → Left i bytes ps before c bs after (k + 1) cur'

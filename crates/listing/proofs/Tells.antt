@@ -55,7 +55,7 @@ module _ {d : ℕ} {bs : List ℕ} {at : ℕ} {old : BodyLines} {rest : List ℕ
         where
           last : (ts : Commands) → cur.blocks + size_commands ts ≡ old.blocks + size_commands cs → encode_commands ts ≡ rest → l.pre ++ sequence_lines old.inputs d off ts ≡ sequence_lines old.inputs d at cs → Adds (size_commands cs) (sequence_lines old.inputs d at cs) old cur
           last no_commands c x y = record {
-            lines = l.told ∙ ap (λ (t : List Line). vec_items old.lines ++ t) (sym (append-nil l.pre) ∙ y);
+            lines = rw (l.told, ← y, append-nil);
             blocks = omega arith;
             inputs = l.inputs;
           }
@@ -89,8 +89,6 @@ module _ {d : ℕ} {bs : List ℕ} {at : ℕ} {old : BodyLines} {rest : List ℕ
                 let one = r.told w t k.0 (omega arith) (omega arith) same in
                 let here : off + length (command_bytes (flat t)) ≡ off' = rw same (omega arith) in
                 let number : cur.blocks + size t ≡ cur'.blocks = sym one.blocks in
-                let lines : List Line = command_lines cur.inputs d off t in
-                let named : lines ≡ command_lines old.inputs d off t = ap (λ (i : ℕ). command_lines i d off t) l.inputs in
                 record {
                   ts = ts;
                   pre = l.pre ++ command_lines old.inputs d off t;
@@ -98,9 +96,9 @@ module _ {d : ℕ} {bs : List ℕ} {at : ℕ} {old : BodyLines} {rest : List ℕ
                   count = omega arith;
                   end = omega arith;
                   is = tail;
-                  told = one.lines ∙ ap (λ (u : List Line). u ++ lines) l.told ∙ append_assoc (vec_items old.lines) l.pre lines ∙ ap (λ (u : List Line). vec_items old.lines ++ (l.pre ++ u)) named;
+                  told = rw (one.lines, l.told, l.inputs, append_assoc);
                   inputs = one.inputs ∙ l.inputs;
-                  whole = append_assoc l.pre (command_lines old.inputs d off t) (sequence_lines old.inputs d off' ts) ∙ (rw here at y);
+                  whole = rw append_assoc (rw here at y);
                 }
 
 -- a block, its line first
@@ -111,11 +109,8 @@ block_tells {d} {r} {bs} {at} old {mid} {new} p e i h = record { told = tells }
     tells w (numbered_block x cs) k few low is =
         let same : mid.blocks ≡ old.blocks + 1 = omega arith in
         let t = h.told w cs (rw same k.1) (omega arith) low is in
-        let more : List Line = sequence_lines mid.inputs d at cs in
         record {
-          lines = t.lines ∙ ap (λ (u : List Line). u ++ more) p ∙ append_assoc (vec_items old.lines) (line.Block old.blocks d r ∷ []) more
-              ∙ ap (λ (j : ℕ). vec_items old.lines ++ (line.Block old.blocks d r ∷ sequence_lines j d at cs)) i
-              ∙ ap (λ (y : ℕ). vec_items old.lines ++ (line.Block y d r ∷ sequence_lines old.inputs d at cs)) (sym k.0);
+          lines = rw (t.lines, p, i, k.0, append_assoc);
           blocks = omega (arith, t.blocks);
           inputs = t.inputs ∙ i;
         }
@@ -130,11 +125,8 @@ two_tell {d} {ys} {zs} {start} {second} {old} {mid} {new} o h g = record { told 
         let t = h.told w b k (omega arith) (omega arith) y in
         let m = t.blocks in
         let u = g.told w e (rw (s, m) j) (omega arith) (omega arith) z in
-        let first : List Line = block_lines old.inputs d First start b in
         record {
-          lines = u.lines ∙ ap (λ (v : List Line). v ++ block_lines mid.inputs d Second second e) t.lines ∙ append_assoc (vec_items old.lines) first (block_lines mid.inputs d Second second e)
-              ∙ ap (λ (v : ℕ). vec_items old.lines ++ (first ++ block_lines mid.inputs d Second v e)) s
-              ∙ ap (λ (v : ℕ). vec_items old.lines ++ (first ++ block_lines v d Second (start + length ys) e)) t.inputs;
+          lines = rw (u.lines, t.lines, t.inputs, s, append_assoc);
           blocks = omega (arith, u.blocks);
           inputs = u.inputs ∙ t.inputs;
         }
@@ -144,16 +136,14 @@ two_tell {d} {ys} {zs} {start} {second} {old} {mid} {new} o h g = record { told 
 module _ {d : ℕ} {f : Flat} {at : ℕ} (old : BodyLines) {mid : BodyLines} {act : Action} (line_first : vec_items mid.lines ≡ vec_items old.lines ++ (line.Command at d old.inputs act ∷ [])) (acts : act ≡ tell f) (blocks : mid.blocks ≡ old.blocks) (inputs : mid.inputs ≡ old.inputs) where
   join : {new : BodyLines} (c : Command) → flat c ≡ f → Adds (size c) (part_lines mid.inputs d at c) mid new → Adds (size c) (command_lines old.inputs d at c) old new
   join {new} c e a = record {
-    lines = a.lines ∙ ap (λ (u : List Line). u ++ part_lines mid.inputs d at c) line_first ∙ append_assoc (vec_items old.lines) (line.Command at d old.inputs act ∷ []) (part_lines mid.inputs d at c)
-        ∙ ap (λ (a : Action). vec_items old.lines ++ (line.Command at d old.inputs a ∷ part_lines mid.inputs d at c)) (acts ∙ ap tell (sym e))
-        ∙ ap (λ (i : ℕ). vec_items old.lines ++ (line.Command at d old.inputs (tell (flat c)) ∷ part_lines i d at c)) inputs;
-    blocks = a.blocks ∙ ap (λ (n : ℕ). n + size c) blocks;
+    lines = rw (a.lines, line_first, acts, ← e, inputs, append_assoc);
+    blocks = rw (a.blocks, blocks);
     inputs = a.inputs ∙ inputs;
   }
 
   -- a command with no block
   bare : (c : Command) → flat c ≡ f → size c ≡ 0 → part_lines mid.inputs d at c ≡ [] → Adds (size c) (command_lines old.inputs d at c) old mid
-  bare c e z none = join c e (record { lines = sym (append-nil _) ∙ ap (λ (u : List Line). vec_items mid.lines ++ u) (sym none); blocks = omega arith; inputs = refl })
+  bare c e z none = join c e (record { lines = rw (none, append-nil); blocks = omega arith; inputs = refl })
 
   pub plain_tells : (p : Plain) → f ≡ plain p → TellsOne d f at old mid
   plain_tells p e = record { told = λ w c k few low. tells c }
