@@ -1,5 +1,5 @@
 -- The listing of the procedures so far, and one procedure more.
-use Rattle.std.proofs.Common.{◌≡◌, ℕ, ◌+◌, ◌≤◌, List, [], ◌∷◌, ◌++◌, length, take, drop, vec_items, sym, refl, ap, ◌∙◌, subst, append_assoc, append-nil, arith, length-append}
+use Rattle.std.proofs.Common.{◌≡◌, ℕ, ◌+◌, ◌≤◌, List, [], ◌∷◌, ◌++◌, length, take, drop, vec_items, sym, refl, ap, ◌∙◌, append_assoc, append-nil, arith, length-append}
 use Rattle.layout.specs.declared.Procedure.{Procedure}
 use Rattle.layout.specs.Tree.{Block}
 use Rattle.layout.specs.Layout.{encode_block}
@@ -74,8 +74,4 @@ module _ {i : ℕ} {bytes : List ℕ} {ps : List Procedure} {before : List Line}
         go : (c : Contents) (bs : List Block) → length bytes ≤ 8192 → Left i bytes ps before c bs left k cur → Left i bytes ps before c bs after (k + 1) cur'
         go c bs small l =
             step c bs l.rest l.pre small
-            (subst (λ (xs : List Procedure). LawfulProcedures c k cur.blocks xs l.rest) e l.lawful)
-            (subst (λ (xs : List Procedure). Lie bytes xs l.rest) e l.lie)
-            (subst (λ (xs : List Procedure). cur.blocks + length (all_spans xs l.rest) ≤ 256) e l.few)
-            l.inputs l.told
-            (subst (λ (xs : List Procedure). l.pre ++ procedure_lines i k xs l.rest ≡ procedure_lines i 0 ps bs) e l.whole)
+            (rw e at l.lawful) (rw e at l.lie) (rw e at l.few) l.inputs l.told (rw e at l.whole)

@@ -32,11 +32,13 @@ pub record Left (d : ℕ) (w : Scope) (cs : Commands) (at last : ℕ) (old : Bod
   pub whole : pre ++ sequence_lines old.inputs d off ts ≡ sequence_lines old.inputs d at cs
 
 pub record Telling (d : ℕ) (bs : List ℕ) (at : ℕ) (old : BodyLines) (rest : List ℕ) (off : ℕ) (cur : BodyLines) : Type 0 where
+  pub shorter : length rest ≤ length bs
   pub bytes : Bytes rest
   pub tells : (w : Scope) (cs : Commands) → KeepsCommands w d old.blocks at cs → old.blocks + size_commands cs ≤ 256 → at + length bs ≤ 8192 → encode_commands cs ≡ bs → Left d w cs at (at + length bs) old rest off cur
 
 pub telling_start : (d : ℕ) (bs : List ℕ) (at : ℕ) (old : BodyLines) → ((j : ℕ) → Fits w8 (get_or bs j 0)) → Telling d bs at old bs at old
 telling_start d bs at old small = record {
+  shorter = omega arith;
   bytes = bytes_all bs small;
   tells = λ w cs k few low e. record { ts = cs; pre = []; keeps = k; count = refl; end = refl; is = e; told = sym (append-nil _); inputs = refl; whole = refl };
 }
@@ -70,6 +72,7 @@ module _ {d : ℕ} {bs : List ℕ} {at : ℕ} {old : BodyLines} {rest : List ℕ
 
     pub telling_on : (off' : ℕ) (cur' : BodyLines) → off' ≡ min (off + (length rest - length after)) 18446744073709551615 → TellsOne d f off cur cur' → Telling d bs at old after off' cur'
     telling_on off' cur' o r = record {
+      shorter = omega (arith, so.shorter, off_bytes.1);
       bytes = off_bytes.3;
       tells = λ w cs k few low e. go w cs few low (so.tells w cs k few low e);
     }

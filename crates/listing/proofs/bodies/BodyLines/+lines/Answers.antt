@@ -1,7 +1,6 @@
-use Rattle.std.proofs.Common.{◌≡◌, length, refl, ap, arith, length-append, rules}
+use Rattle.std.proofs.Common.{refl, ap, arith}
 use Rattle.std.proofs.lemmas.Result.{IfOk-weaker}
 use Rattle.layout.specs.Tree.{when_place, try_frame}
-use Rattle.layout.specs.Layout.{Flat, command_bytes}
 use Rattle.commands.specs.Reads.{flat_of}
 use Rattle.listing.proofs.Tells.{telling_start, telling_end, telling_on, off_bytes, block_tells, two_tell, plain_tells, call_tells, loop_tells, grant_tells, choice_tells}
 use Rattle.listing.proofs.bodies.BodyLines.+lines.Goals as goal
@@ -11,18 +10,6 @@ list_block-returns t c = IfOk-weaker c.list_commands.result _ _ (λ u h. block_t
 
 pub list_choice-returns : goal.list_choice-returns
 list_choice-returns t c = IfOk-weaker c.list_block-2.result _ _ (λ u h. two_tell c.saturating_add-between.ensures c.in_ok-list_block.ensures h) c.list_block-2.ensures
-
-pub list_command-list_choice-requires : goal.list_command-list_choice-requires
-list_command-list_choice-requires t c =
-    let l : length (command_bytes (flat_of c.args.command)) ≡ _ = ap (λ (x : Flat). length (command_bytes x)) (ap flat_of c.in-When.is) in
-    let n = length-append c.in-When.first.now c.in-When.second.now in
-    (omega (arith, c.decreases), tt)
-
-pub list_command-list_choice-requires-in-Try : goal.list_command-list_choice-requires-in-Try
-list_command-list_choice-requires-in-Try t c =
-    let l : length (command_bytes (flat_of c.args.command)) ≡ _ = ap (λ (x : Flat). length (command_bytes x)) (ap flat_of c.in-Try.is) in
-    let n = length-append c.in-Try.first.now c.in-Try.second.now in
-    (omega (arith, c.decreases), tt)
 
 pub list_command-returns-in-Plain : goal.list_command-returns-in-Plain
 list_command-returns-in-Plain t c = plain_tells c.args.self.now c.in_ok-push.ensures.items c.action.ensures refl refl _ (ap flat_of c.in-Plain.is)
@@ -43,24 +30,20 @@ pub list_command-returns-in-Try : goal.list_command-returns-in-Try
 list_command-returns-in-Try t c = IfOk-weaker c.list_choice-in-Try.result _ _ (λ u h. choice_tells c.args.self.now c.in_ok-push.ensures.items c.action.ensures refl refl c.saturating_add-inner.ensures (try_frame _ _) _ _ (ap flat_of c.in-Try.is) c.saturating_add-in-Try.ensures h) c.list_choice-in-Try.ensures
 
 pub list_commands-loop-command-init : goal.list_commands-loop-command-init
-list_commands-loop-command-init t c = (search rules, telling_start _ _ _ _ c.type_inv.bytes)
+list_commands-loop-command-init t c = telling_start _ _ _ _ c.type_inv.bytes
 
 pub list_commands-list_command-requires : goal.list_commands-list_command-requires
 list_commands-list_command-requires t c =
-    let l = off_bytes c.loop-command.invariant.1 c.in-Ok.ensures in
-    (omega (arith, c.decreases, c.loop-command.invariant.0), tt)
+    let l = off_bytes c.loop-command.invariant c.in-Ok.ensures in
+    (omega (arith, c.decreases, c.loop-command.invariant.shorter), tt)
 
 pub list_commands-loop-command-smaller : goal.list_commands-loop-command-smaller
 list_commands-loop-command-smaller t c =
-    let l = off_bytes c.loop-command.invariant.1 c.in-Ok.ensures in
+    let l = off_bytes c.loop-command.invariant c.in-Ok.ensures in
     omega arith
 
 pub list_commands-loop-command-preserved : goal.list_commands-loop-command-preserved
-list_commands-loop-command-preserved t c =
-    let l = off_bytes c.loop-command.invariant.1 c.in-Ok.ensures in (
-      omega (arith, c.loop-command.invariant.0),
-      telling_on c.loop-command.invariant.1 c.in-Ok.ensures _ _ (omega (arith, c.saturating_add-offset.ensures, c.saturating_sub.ensures)) c.in_ok-list_command.ensures,
-    )
+list_commands-loop-command-preserved t c = telling_on c.loop-command.invariant c.in-Ok.ensures _ _ (omega (arith, c.saturating_add-offset.ensures, c.saturating_sub.ensures)) c.in_ok-list_command.ensures
 
 pub list_commands-returns : goal.list_commands-returns
-list_commands-returns t c = telling_end c.loop-command.invariant.1 _ c.in_default.ensures
+list_commands-returns t c = telling_end c.loop-command.invariant _ c.in_default.ensures

@@ -1,4 +1,4 @@
-use Rattle.std.proofs.Common.{◌+◌, ◌*◌, ◌≤◌, length}
+use Rattle.std.proofs.Common.{◌+◌, ◌*◌, length}
 use Rattle.layout.specs.Layout.{command_bytes}
 use Rattle.commands.specs.Reads.{flat_of}
 use Rattle.listing.proofs.Tells.{Telling}
@@ -17,7 +17,7 @@ abbrev pub decreases-list_commands : goal.decreases-list_commands
 decreases-list_commands l = 3 * length l.bytes.now + 1
 
 abbrev pub invariant-list_commands-loop-command : goal.invariant-list_commands-loop-command
-invariant-list_commands-loop-command l = (length l.rest ≤ length l.bytes) × Telling l.depth l.bytes l.at l.initial.self l.rest l.offset l.self
+invariant-list_commands-loop-command l = Telling l.depth l.bytes l.at l.initial.self l.rest l.offset l.self
 
 abbrev pub decreases-list_commands-loop-command : goal.decreases-list_commands-loop-command
 decreases-list_commands-loop-command l = length l.rest
