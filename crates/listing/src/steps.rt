@@ -12,7 +12,7 @@ use std::fmt;
 
 // One step: reading starts; so many bytes were read; so much is declared; a procedure was checked; the package is
 // accepted, or refused.
-#[derive(Clone, Copy)]
+#[derive(Clone, Copy, Debug, PartialEq, Eq)]
 pub enum Step {
     Reading,
     Read { bytes: usize },

@@ -24,7 +24,7 @@ impl<'a> fmt::Display for Numbers<'a> {
 
 // Who holds numbers: a party holds rights, by its frame; a device needs rights of whoever drives it; a block may write
 // places.
-#[derive(Clone, Copy)]
+#[derive(Clone, Copy, Debug, PartialEq, Eq)]
 pub enum Holder {
     Party,
     Device,
