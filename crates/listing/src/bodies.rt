@@ -104,7 +104,7 @@ impl BodyLines {
         })?;
         let inner = depth.saturating_add(1);
         match command {
-            Command::Plain(_) | Command::Call { .. } => Ok(()),
+            Command::Plain(_) => Ok(()),
             Command::When { first, second, .. } => {
                 self.list_choice(first, second, at.saturating_add(6), inner)
             }
@@ -114,6 +114,7 @@ impl BodyLines {
             Command::Grant { body, .. } => {
                 self.list_block(body, at.saturating_add(11), inner, Role::Granted)
             }
+            Command::Call { .. } => Ok(()),
             Command::Try { first, second, .. } => {
                 self.list_choice(first, second, at.saturating_add(14), inner)
             }
