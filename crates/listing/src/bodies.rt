@@ -20,16 +20,18 @@ pub(crate) struct BodyLines {
 }
 
 // What a command does, its blocks apart.
-fn action<'a>(command: Command<'a>) -> Action
-    ensures { result ≡ tell (flat_of command.entry) }
-{
-    match command {
-        Command::Plain(plain) => Action::Plain(plain),
-        Command::When { place, .. } => Action::When { place },
-        Command::Loop { place, times, .. } => Action::Loop { place, times },
-        Command::Grant { frame, .. } => Action::Grant { frame },
-        Command::Call { procedure } => Action::Call { procedure },
-        Command::Try { frame, place, .. } => Action::Try { frame, place },
+impl<'a> From<Command<'a>> for Action {
+    ghost from_gives = { λ command action. action ≡ tell (flat_of command) };
+
+    fn from(command: Command<'a>) -> Action {
+        match command {
+            Command::Plain(plain) => Action::Plain(plain),
+            Command::When { place, .. } => Action::When { place },
+            Command::Loop { place, times, .. } => Action::Loop { place, times },
+            Command::Grant { frame, .. } => Action::Grant { frame },
+            Command::Call { procedure } => Action::Call { procedure },
+            Command::Try { frame, place, .. } => Action::Try { frame, place },
+        }
     }
 }
 
@@ -100,7 +102,7 @@ impl BodyLines {
             offset: at,
             depth,
             inputs: self.inputs,
-            action: action(command),
+            action: Action::from(command),
         })?;
         let inner = depth.saturating_add(1);
         match command {

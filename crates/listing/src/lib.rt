@@ -36,11 +36,10 @@ fn list_places(lines: &mut Vec<Line>, contents: &Contents) -> Result<(), AllocEr
         0,
         |number, input| Line::Input { number, input },
     )?;
-    let first = contents.inputs.len();
     add_rows(
         lines,
         &contents.cells,
-        first,
+        contents.inputs.len(),
         |number, cell| Line::Cell { number, cell },
     )
 }

@@ -1,4 +1,4 @@
-// Rows: one line for each declaration of a sort.
+// Rows that are numbered: one line for each declaration of a sort.
 ghost use Rattle.std.specs.Prelude.{◌≡◌, ℕ, ◌+◌, ◌^◌, ◌<◌, ◌++◌, length, OnOk};
 ghost use Rattle.listing.specs.declared.lines.Line.{Line as Shown};
 ghost use Rattle.listing.specs.Lines.{section};

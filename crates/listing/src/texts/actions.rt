@@ -6,8 +6,18 @@ use std::fmt;
 // What is shown where so many places are inputs, by which a place has its name.
 #[derive(Clone, Copy)]
 pub(crate) struct Named<T> {
-    pub(crate) shown: T,
-    pub(crate) inputs: usize,
+    shown: T,
+    inputs: usize,
+}
+
+impl Action {
+    // The action, where so many places are inputs.
+    pub(crate) fn named(self, inputs: usize) -> Named<Action> {
+        Named {
+            shown: self,
+            inputs,
+        }
+    }
 }
 
 // A place, by its number in the row of places.

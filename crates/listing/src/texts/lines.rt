@@ -1,6 +1,6 @@
 // The text of lines.
 use super::actions::Named;
-use crate::lines::{Line, Role, Sort};
+use crate::lines::{Action, Line, Role, Sort};
 use layout::{Cell, Input, Procedure, Table};
 use std::fmt;
 
@@ -79,13 +79,38 @@ fn write_procedure<W: fmt::Write>(
     number: usize,
     procedure: Procedure,
 ) -> fmt::Result {
-    let (party, start, length) = (procedure.party, procedure.start, procedure.length);
-    let (height, steps) = (procedure.height, procedure.steps);
+    let Procedure {
+        party,
+        start,
+        length,
+        height,
+        steps,
+    } = procedure;
     write!(
         f,
         "  procedure {number:>3}  party {party:>3}  body at {start:>4}, {length:>4} bytes"
     )?;
     write!(f, "  height {height}  at most {steps} steps")
+}
+
+fn write_block<W: fmt::Write>(
+    f: &mut fmt::Formatter<W>,
+    number: usize,
+    depth: usize,
+    role: Role,
+) -> fmt::Result {
+    let indent = Indent(depth);
+    write!(f, "          {indent}block {number}, {role}")
+}
+
+fn write_command<W: fmt::Write>(
+    f: &mut fmt::Formatter<W>,
+    offset: usize,
+    depth: usize,
+    action: Named<Action>,
+) -> fmt::Result {
+    let indent = Indent(depth);
+    write!(f, "    {offset:>4}    {indent}{action}")
 }
 
 impl fmt::Display for Line {
@@ -108,25 +133,13 @@ impl fmt::Display for Line {
                 number,
                 depth,
                 role,
-            } => {
-                let indent = Indent(depth);
-                write!(f, "          {indent}block {number}, {role}")
-            }
+            } => write_block(f, number, depth, role),
             Line::Command {
                 offset,
                 depth,
                 inputs,
                 action,
-            } => {
-                let (indent, done) = (
-                    Indent(depth),
-                    Named {
-                        shown: action,
-                        inputs,
-                    },
-                );
-                write!(f, "    {offset:>4}    {indent}{done}")
-            }
+            } => write_command(f, offset, depth, action.named(inputs)),
             Line::Entry { number, procedure } => write!(
                 f,
                 "  entry     {number:>3}  procedure {procedure:>3}"

@@ -12,22 +12,22 @@ pub list_choice-returns : goal.list_choice-returns
 list_choice-returns t c = IfOk-weaker c.list_block-2.result _ _ (λ u h. two_tell c.saturating_add-between.ensures c.in_ok-list_block.ensures h) c.list_block-2.ensures
 
 pub list_command-returns-in-Plain : goal.list_command-returns-in-Plain
-list_command-returns-in-Plain t c = plain_tells c.args.self.now c.in_ok-push.ensures.items c.action.ensures refl refl _ (ap flat_of c.in-Plain.is)
+list_command-returns-in-Plain t c = plain_tells c.args.self.now c.in_ok-push.ensures.items c.from.ensures refl refl _ (ap flat_of c.in-Plain.is)
 
 pub list_command-returns-in-When : goal.list_command-returns-in-When
-list_command-returns-in-When t c = IfOk-weaker c.list_choice.result _ _ (λ u h. choice_tells c.args.self.now c.in_ok-push.ensures.items c.action.ensures refl refl c.saturating_add-inner.ensures (when_place _) _ _ (ap flat_of c.in-When.is) c.saturating_add.ensures h) c.list_choice.ensures
+list_command-returns-in-When t c = IfOk-weaker c.list_choice.result _ _ (λ u h. choice_tells c.args.self.now c.in_ok-push.ensures.items c.from.ensures refl refl c.saturating_add-inner.ensures (when_place _) _ _ (ap flat_of c.in-When.is) c.saturating_add.ensures h) c.list_choice.ensures
 
 pub list_command-returns-in-Loop : goal.list_command-returns-in-Loop
-list_command-returns-in-Loop t c = IfOk-weaker c.list_block.result _ _ (λ u h. loop_tells c.args.self.now c.in_ok-push.ensures.items c.action.ensures refl refl c.saturating_add-inner.ensures _ _ _ (ap flat_of c.in-Loop.is) c.saturating_add-in-Loop.ensures h) c.list_block.ensures
+list_command-returns-in-Loop t c = IfOk-weaker c.list_block.result _ _ (λ u h. loop_tells c.args.self.now c.in_ok-push.ensures.items c.from.ensures refl refl c.saturating_add-inner.ensures _ _ _ (ap flat_of c.in-Loop.is) c.saturating_add-in-Loop.ensures h) c.list_block.ensures
 
 pub list_command-returns-in-Grant : goal.list_command-returns-in-Grant
-list_command-returns-in-Grant t c = IfOk-weaker c.list_block-in-Grant.result _ _ (λ u h. grant_tells c.args.self.now c.in_ok-push.ensures.items c.action.ensures refl refl c.saturating_add-inner.ensures _ _ (ap flat_of c.in-Grant.is) c.saturating_add-in-Grant.ensures h) c.list_block-in-Grant.ensures
+list_command-returns-in-Grant t c = IfOk-weaker c.list_block-in-Grant.result _ _ (λ u h. grant_tells c.args.self.now c.in_ok-push.ensures.items c.from.ensures refl refl c.saturating_add-inner.ensures _ _ (ap flat_of c.in-Grant.is) c.saturating_add-in-Grant.ensures h) c.list_block-in-Grant.ensures
 
 pub list_command-returns-in-Call : goal.list_command-returns-in-Call
-list_command-returns-in-Call t c = call_tells c.args.self.now c.in_ok-push.ensures.items c.action.ensures refl refl _ (ap flat_of c.in-Call.is)
+list_command-returns-in-Call t c = call_tells c.args.self.now c.in_ok-push.ensures.items c.from.ensures refl refl _ (ap flat_of c.in-Call.is)
 
 pub list_command-returns-in-Try : goal.list_command-returns-in-Try
-list_command-returns-in-Try t c = IfOk-weaker c.list_choice-in-Try.result _ _ (λ u h. choice_tells c.args.self.now c.in_ok-push.ensures.items c.action.ensures refl refl c.saturating_add-inner.ensures (try_frame _ _) _ _ (ap flat_of c.in-Try.is) c.saturating_add-in-Try.ensures h) c.list_choice-in-Try.ensures
+list_command-returns-in-Try t c = IfOk-weaker c.list_choice-in-Try.result _ _ (λ u h. choice_tells c.args.self.now c.in_ok-push.ensures.items c.from.ensures refl refl c.saturating_add-inner.ensures (try_frame _ _) _ _ (ap flat_of c.in-Try.is) c.saturating_add-in-Try.ensures h) c.list_choice-in-Try.ensures
 
 pub list_commands-loop-command-init : goal.list_commands-loop-command-init
 list_commands-loop-command-init t c = telling_start _ _ _ _ c.type_inv.bytes
