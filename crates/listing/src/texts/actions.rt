@@ -72,13 +72,9 @@ fn sign(operation: Operation) -> &'static str {
 impl fmt::Display for Named<Plain> {
     fn fmt<W: fmt::Write>(&self, f: &mut fmt::Formatter<W>) -> fmt::Result {
         match self.shown {
-            Plain::Set { target, value } => {
-                let to = self.place(target);
-                write!(f, "SET {to} to {value}")
-            }
+            Plain::Set { target, value } => write!(f, "SET {} to {value}", self.place(target)),
             Plain::Copy { target, source } => {
-                let (to, from) = (self.place(target), self.place(source));
-                write!(f, "COPY {from} to {to}")
+                write!(f, "COPY {} to {}", self.place(source), self.place(target))
             }
             Plain::Combine {
                 operation,
@@ -107,8 +103,7 @@ impl fmt::Display for Named<Plain> {
                 write!(f, "PUT {from} into table {table} at {at}")
             }
             Plain::Drive { device, source } => {
-                let from = self.place(source);
-                write!(f, "DRIVE device {device} with {from}")
+                write!(f, "DRIVE device {device} with {}", self.place(source))
             }
         }
     }
@@ -125,20 +120,14 @@ impl fmt::Display for Named<Action> {
                 };
                 write!(f, "{plain}")
             }
-            Action::When { place } => {
-                let asked = self.place(place);
-                write!(f, "WHEN {asked} is not 0")
-            }
+            Action::When { place } => write!(f, "WHEN {} is not 0", self.place(place)),
             Action::Loop { place, times } => {
                 let asked = self.place(place);
                 write!(f, "LOOP at most {times} times while {asked} is not 0")
             }
             Action::Grant { frame } => write!(f, "GRANT {frame:016x}"),
             Action::Call { procedure } => write!(f, "CALL procedure {procedure}"),
-            Action::Try { frame, place } => {
-                let asked = self.place(place);
-                write!(f, "TRY {frame:016x} at {asked}")
-            }
+            Action::Try { frame, place } => write!(f, "TRY {frame:016x} at {}", self.place(place)),
         }
     }
 }
