@@ -63,7 +63,7 @@ impl BodyLines {
     {
         let mut rest = bytes;
         let mut offset = at;
-        // No iterator of commands: each of those that go through a body wants something else of where it stands.
+        // A loop and no iterator of commands: the three walks over commands each want something else of it.
         while let Ok((command, after)) = decode(rest) {
             self.list_command(command, offset, depth)?;
             offset = offset.saturating_add(rest.len().saturating_sub(after.len()));
