@@ -9,45 +9,39 @@ use package::load;
 use package::refusal::Refusal;
 use std::io::Read;
 use wording::excerpts::Excerpt;
-use wording::lines::LineText;
-use wording::steps::StepText;
 
 // One byte more than any package has: what is longer is refused as such, and not cut.
 const MOST: u64 = 8193;
 
-fn tell_accepted(rt: &HostRuntime, held: &Package) -> anyhow::Result<()> {
+fn tell_accepted(rt: &(impl Print + AllocGlobal), held: &Package) -> anyhow::Result<()> {
     for step in steps(rt.alloc(), held.contents())?.iter() {
-        println!(rt; "{}", StepText(*step))?;
+        println!(rt; "{step}")?;
     }
     println!(rt; "")?;
     for line in listing(rt.alloc(), held)?.iter() {
-        println!(rt; "{}", LineText(*line))?;
+        println!(rt; "{line}")?;
     }
     Ok(())
 }
 
-fn tell_refused(rt: &HostRuntime, bytes: &[u8], refusal: Refusal) -> anyhow::Result<()> {
-    let step = Step::Refused {
-        number: refusal.number(),
-        offset: refusal.offset(),
-    };
+fn tell_refused(rt: &impl Print, bytes: &[u8], refusal: Refusal) -> anyhow::Result<()> {
+    let step = Step::Refused(refusal);
     let why = cause(refusal);
     let around = Excerpt {
         bytes,
         offset: refusal.offset(),
     };
-    println!(rt; "{}", StepText(step))?;
+    println!(rt; "{step}")?;
     println!(rt; "  {why}")?;
     println!(rt; "  {around}")?;
     Ok(())
 }
 
 fn main(rt: HostRuntime) -> anyhow::Result<()> {
-    println!(rt; "{}", StepText(Step::Reading))?;
+    rt.println(Step::Reading)?;
     let mut bytes = Vec::new(rt.alloc());
-    let mut source = rt.stdin().take(MOST);
-    source.read_to_end(&mut bytes)?;
-    println!(rt; "{}", StepText(Step::Read { bytes: bytes.len() }))?;
+    rt.stdin().take(MOST).read_to_end(&mut bytes)?;
+    rt.println(Step::Read { bytes: bytes.len() })?;
     match load(rt.alloc(), &bytes) {
         Ok(held) => tell_accepted(&rt, &held),
         Err(refusal) => tell_refused(&rt, &bytes, refusal),

@@ -2,4 +2,3 @@ pub mod Numbering
 pub mod Tells
 pub mod Procedures
 pub mod Joins
-pub mod Told

@@ -1,19 +1,13 @@
--- Numbered rows, one more at a time.
-use Rattle.std.proofs.Common.{◌≡◌, ℕ, ◌+◌, ◌<◌, List, [], ◌∷◌, ◌++◌, length, get_or, take, sym, ap, ◌∙◌, append_assoc, arith, length-take-le}
-use Rattle.std.proofs.lemmas.List.{take_more}
+-- Numbered rows, by the library's words.
+use Rattle.std.proofs.Common.{◌≡◌, ℕ, ◌+◌, ◌<◌, ◌^◌, min, List, [], ◌∷◌, length, refl, ap, arith, map}
+use Rattle.std.specs.List.{enumerate_from}
 use Rattle.listing.specs.Numbered.{numbered}
 
 module _ {X Y : Type 0} (row : ℕ → X → Y) where
-  pub numbered-append : (n : ℕ) (xs ys : List X) → numbered row n (xs ++ ys) ≡ numbered row n xs ++ numbered row (n + length xs) ys
-  numbered-append n [] ys = ap (λ (k : ℕ). numbered row k ys) (omega arith)
-  numbered-append n (x ∷ xs) ys =
-      let e : n + 1 + length xs ≡ n + length (x ∷ xs) = omega arith in
-      ap (λ (t : List Y). row n x ∷ t) (numbered-append (n + 1) xs ys ∙ ap (λ (k : ℕ). numbered row (n + 1) xs ++ numbered row k ys) e)
-
-  -- one row more
-  pub numbered_more : (before lines lines' : List Y) (n i k : ℕ) (xs : List X) (x : X) → i < length xs → x ≡ get_or xs i x → k ≡ n + i → lines ≡ before ++ numbered row n (take i xs) → lines' ≡ lines ++ (row k x ∷ []) → lines' ≡ before ++ numbered row n (take (i + 1) xs)
-  numbered_more before lines lines' n i k xs x h r e so new =
-      let l = length-take-le i xs (omega arith) in
-      let step : numbered row n (take (i + 1) xs) ≡ numbered row n (take i xs) ++ (row k x ∷ []) =
-      ap (numbered row n) (take_more xs i x h) ∙ numbered-append n (take i xs) (get_or xs i x ∷ []) ∙ rw (l, ← r, ← e) in
-      new ∙ ap (λ (t : List Y). t ++ (row k x ∷ [])) so ∙ append_assoc before (numbered row n (take i xs)) (row k x ∷ []) ∙ ap (λ (t : List Y). before ++ t) (sym step)
+  -- what is numbered from k on, where no number passes the greatest
+  pub map-enumerate_from : (n k : ℕ) (xs : List X) → n + k + length xs < 2 ^ 64 → map (λ p. row (min (n + p.0) 18446744073709551615) p.1) (enumerate_from k xs) ≡ numbered row (n + k) xs
+  map-enumerate_from n k [] h = refl
+  map-enumerate_from n k (x ∷ xs) h =
+      let here : min (n + k) 18446744073709551615 ≡ n + k = omega arith in
+      let next : n + (k + 1) ≡ n + k + 1 = omega arith in
+      rw (here, ← next) (ap (λ (t : List Y). row (n + k) x ∷ t) (map-enumerate_from n (k + 1) xs (omega arith)))

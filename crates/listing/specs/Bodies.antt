@@ -1,5 +1,6 @@
 -- The lines of a body, by its tree.
 use Rattle.std.specs.Prelude.{◌≡◌, ℕ, ◌+◌, ◌≤◌, List, [], ◌∷◌, ◌++◌, length}
+use Rattle.std.specs.Vec.{vec_items}
 use Rattle.layout.specs.Tree as tree
 use Rattle.layout.specs.Tree.{Choice, when_place, try_frame, Command, plain_command, choose_block, loop_block, grant_block, call_procedure, Commands, no_commands, then_command, Block, numbered_block}
 use Rattle.layout.specs.Layout.{Flat, plain, choose, loop, grant, call, command_bytes, flat, encode_commands, encode_block, choice_head, loop_head, grant_head}
@@ -10,6 +11,7 @@ use Rattle.commands.specs.declared.Operation.{Operation}
 use Rattle.commands.specs.declared.Operation.TheVariants.{Add, Sub, Less, Same, Bits}
 use Rattle.commands.specs.declared.Plain.{Plain}
 use Rattle.commands.specs.declared.Plain.TheVariants.{Set, Copy, Combine, Pick, Put, Drive}
+use Rattle.listing.specs.declared.bodies.BodyLines.{BodyLines}
 use Rattle.listing.specs.declared.lines.Action.{Action}
 use Rattle.listing.specs.declared.lines.Action.TheVariants as action
 use Rattle.listing.specs.declared.lines.Role.{Role}
@@ -64,20 +66,22 @@ abbrev mutual
 abbrev pub command_lines : ℕ → ℕ → ℕ → Command → List Line
 command_lines i d at c = line.Command at d i (tell (flat c)) ∷ part_lines i d at c
 
--- of bytes that are the layout of a tree which keeps the limits: its lines were added, and `next` is the number behind it
-abbrev pub TellsBlock : ℕ → ℕ → Role → List ℕ → ℕ → ℕ → ℕ → List Line → List Line → Type 0
-TellsBlock i d r bs at n next before after =
-    (w : Scope) (b : Block) → KeepsBlock w d n at b → n + size_block b ≤ 256 → at + length bs ≤ 8192 → encode_block b ≡ bs → (next ≡ n + size_block b) × (after ≡ before ++ block_lines i d r at b)
+-- these lines were added, with so many blocks
+pub record Adds (count : ℕ) (more : List Line) (old new : BodyLines) : Type 0 where
+  pub lines : vec_items new.lines ≡ vec_items old.lines ++ more
+  pub blocks : new.blocks ≡ old.blocks + count
+  pub inputs : new.inputs ≡ old.inputs
 
-abbrev pub TellsAll : ℕ → ℕ → List ℕ → ℕ → ℕ → ℕ → List Line → List Line → Type 0
-TellsAll i d bs at n next before after =
-    (w : Scope) (cs : Commands) → KeepsCommands w d n at cs → n + size_commands cs ≤ 256 → at + length bs ≤ 8192 → encode_commands cs ≡ bs → (next ≡ n + size_commands cs) × (after ≡ before ++ sequence_lines i d at cs)
+-- of bytes that are the layout of a tree which keeps the limits: its lines were added, with its blocks
+pub record TellsBlock (d : ℕ) (r : Role) (bs : List ℕ) (at : ℕ) (old new : BodyLines) : Type 0 where
+  pub told : (w : Scope) (b : Block) → KeepsBlock w d old.blocks at b → old.blocks + size_block b ≤ 256 → at + length bs ≤ 8192 → encode_block b ≡ bs → Adds (size_block b) (block_lines old.inputs d r at b) old new
 
-abbrev pub TellsOne : ℕ → ℕ → Flat → ℕ → ℕ → ℕ → List Line → List Line → Type 0
-TellsOne i d f at n next before after =
-    (w : Scope) (c : Command) → Keeps w d n at c → n + size c ≤ 256 → at + length (command_bytes f) ≤ 8192 → flat c ≡ f → (next ≡ n + size c) × (after ≡ before ++ command_lines i d at c)
+pub record TellsAll (d : ℕ) (bs : List ℕ) (at : ℕ) (old new : BodyLines) : Type 0 where
+  pub told : (w : Scope) (cs : Commands) → KeepsCommands w d old.blocks at cs → old.blocks + size_commands cs ≤ 256 → at + length bs ≤ 8192 → encode_commands cs ≡ bs → Adds (size_commands cs) (sequence_lines old.inputs d at cs) old new
+
+pub record TellsOne (d : ℕ) (f : Flat) (at : ℕ) (old new : BodyLines) : Type 0 where
+  pub told : (w : Scope) (c : Command) → Keeps w d old.blocks at c → old.blocks + size c ≤ 256 → at + length (command_bytes f) ≤ 8192 → flat c ≡ f → Adds (size c) (command_lines old.inputs d at c) old new
 
 -- the two blocks of a choice
-abbrev pub TellsTwo : ℕ → ℕ → List ℕ → List ℕ → ℕ → ℕ → ℕ → List Line → List Line → Type 0
-TellsTwo i d ys zs start n next before after =
-    (w : Scope) (b e : Block) → KeepsBlock w d n start b → KeepsBlock w d (n + size_block b) (start + length ys) e → n + (size_block b + size_block e) ≤ 256 → start + length ys + length zs ≤ 8192 → encode_block b ≡ ys → encode_block e ≡ zs → (next ≡ n + (size_block b + size_block e)) × (after ≡ before ++ (block_lines i d First start b ++ block_lines i d Second (start + length ys) e))
+pub record TellsTwo (d : ℕ) (ys zs : List ℕ) (start : ℕ) (old new : BodyLines) : Type 0 where
+  pub told : (w : Scope) (b e : Block) → KeepsBlock w d old.blocks start b → KeepsBlock w d (old.blocks + size_block b) (start + length ys) e → old.blocks + (size_block b + size_block e) ≤ 256 → start + length ys + length zs ≤ 8192 → encode_block b ≡ ys → encode_block e ≡ zs → Adds (size_block b + size_block e) (block_lines old.inputs d First start b ++ block_lines old.inputs d Second (start + length ys) e) old new

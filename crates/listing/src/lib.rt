@@ -12,14 +12,15 @@ use bodies::list_procedures;
 use lines::{Line, Sort};
 use package::contents::Contents;
 use package::held::Package;
-use rows::{Cells, Devices, Entries, Inputs, Parties, Tables, list, list_sort};
+use rows::{add_rows, list_sort};
 use std::alloc::{AllocError, Global};
 
 mod bodies;
 pub mod lines;
 pub mod refusals;
-pub mod rows;
+mod rows;
 pub mod steps;
+mod texts;
 
 // Lists the places, the inputs first.
 fn list_places(lines: &mut Vec<Line>, contents: &Contents) -> Result<(), AllocError>
@@ -29,13 +30,23 @@ fn list_places(lines: &mut Vec<Line>, contents: &Contents) -> Result<(), AllocEr
         sort: Sort::Places,
         count: contents.places(),
     })?;
-    list::<Inputs>(lines, &contents.inputs, 0)?;
-    list::<Cells>(lines, &contents.cells, contents.inputs.len())
+    add_rows(
+        lines,
+        &contents.inputs,
+        0,
+        |number, input| Line::Input { number, input },
+    )?;
+    add_rows(
+        lines,
+        &contents.cells,
+        contents.inputs.len(),
+        |number, cell| Line::Cell { number, cell },
+    )
 }
 
 // Lists the procedures with their bodies.
-fn list_bodies(lines: &mut Vec<Line>, held: &Package) -> Result<(), AllocError>
-    ensures { OnOk result (lines.new.items ≡ lines.old.items ++ body_lines (contents_of (tree_of held.now)) (bodies_of (tree_of held.now))) }
+fn list_bodies(mut lines: Vec<Line>, held: &Package) -> Result<Vec<Line>, AllocError>
+    ensures { IfOk result (λ after. after.items ≡ lines.items ++ body_lines (contents_of (tree_of held.now)) (bodies_of (tree_of held.now))) }
 {
     let contents = held.contents();
     lines.push(Line::Heading {
@@ -56,12 +67,32 @@ pub fn listing(heap: Global, held: &Package) -> Result<Vec<Line>, AllocError>
 {
     let contents = held.contents();
     let mut lines = Vec::new(heap);
-    list_sort::<Parties>(&mut lines, Sort::Parties, &contents.parties)?;
+    list_sort(
+        &mut lines,
+        Sort::Parties,
+        &contents.parties,
+        |number, frame| Line::Party { number, frame },
+    )?;
     list_places(&mut lines, contents)?;
-    list_sort::<Tables>(&mut lines, Sort::Tables, &contents.tables)?;
-    list_sort::<Devices>(&mut lines, Sort::Devices, &contents.needs)?;
-    list_bodies(&mut lines, held)?;
-    list_sort::<Entries>(&mut lines, Sort::Entries, &contents.entries)?;
+    list_sort(
+        &mut lines,
+        Sort::Tables,
+        &contents.tables,
+        |number, table| Line::Table { number, table },
+    )?;
+    list_sort(
+        &mut lines,
+        Sort::Devices,
+        &contents.needs,
+        |number, need| Line::Device { number, need },
+    )?;
+    let mut lines = list_bodies(lines, held)?;
+    list_sort(
+        &mut lines,
+        Sort::Entries,
+        &contents.entries,
+        |number, procedure| Line::Entry { number, procedure },
+    )?;
     lines.push(Line::Cycle {
         steps: contents.steps,
     })?;

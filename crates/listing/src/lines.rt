@@ -3,7 +3,7 @@ use commands::Plain;
 use layout::{Cell, Input, Procedure, Table};
 
 // A sort of declaration that a listing has a heading for.
-#[derive(Clone, Copy)]
+#[derive(Clone, Copy, Debug, PartialEq, Eq)]
 pub enum Sort {
     Parties,
     Places,
@@ -14,7 +14,7 @@ pub enum Sort {
 }
 
 // What a command does, its blocks apart.
-#[derive(Clone, Copy)]
+#[derive(Clone, Copy, Debug, PartialEq, Eq)]
 pub enum Action {
     Plain(Plain),
     When { place: u8 },
@@ -25,7 +25,7 @@ pub enum Action {
 }
 
 // When a block is run: it is a body; a choice fell on the first block or on the second; a loop turns; under a grant.
-#[derive(Clone, Copy)]
+#[derive(Clone, Copy, Debug, PartialEq, Eq)]
 pub enum Role {
     Body,
     First,
@@ -35,7 +35,7 @@ pub enum Role {
 }
 
 // One line of a listing. `inputs` is how many places are inputs, by which a place has its name.
-#[derive(Clone, Copy)]
+#[derive(Clone, Copy, Debug, PartialEq, Eq)]
 pub enum Line {
     Heading {
         sort: Sort,

@@ -1,136 +1,43 @@
-// Rows: one line for each declaration of a sort.
-ghost use Rattle.std.specs.Prelude.{◌≡◌, ℕ, ◌+◌, ◌^◌, ◌<◌, ◌≤◌, ◌++◌, length, OnOk};
+// Rows that are numbered: one line for each declaration of a sort.
+ghost use Rattle.std.specs.Prelude.{◌≡◌, ℕ, ◌+◌, ◌^◌, ◌<◌, ◌++◌, length, OnOk};
 ghost use Rattle.listing.specs.declared.lines.Line.{Line as Shown};
-ghost use Rattle.listing.specs.declared.lines.Line.TheVariants as line;
 ghost use Rattle.listing.specs.Lines.{section};
-ghost use Rattle.listing.specs.Numbered.{numbered};
+ghost use Rattle.listing.specs.Numbered.{numbered, GivesRows};
 
 use super::lines::{Line, Sort};
-use layout::{Cell, Input, Table};
 use std::alloc::AllocError;
 
-// A sort whose declarations are listed one to a line.
-pub trait Rows {
-    type Item: Copy;
-
-    // The line of a declaration, by its number.
-    ghost row: { ℕ → Self.Item → Shown };
-
-    fn line(number: usize, item: Self::Item) -> Line
-        ensures { result ≡ row number item };
-}
-
-pub struct Parties;
-
-impl Rows for Parties {
-    type Item = u64;
-
-    ghost row = { λ n x. line.Party n x };
-
-    fn line(number: usize, item: u64) -> Line {
-        Line::Party {
-            number,
-            frame: item,
-        }
-    }
-}
-
-pub struct Inputs;
-
-impl Rows for Inputs {
-    type Item = Input;
-
-    ghost row = { λ n x. line.Input n x };
-
-    fn line(number: usize, item: Input) -> Line {
-        Line::Input {
-            number,
-            input: item,
-        }
-    }
-}
-
-pub struct Cells;
-
-impl Rows for Cells {
-    type Item = Cell;
-
-    ghost row = { λ n x. line.Cell n x };
-
-    fn line(number: usize, item: Cell) -> Line {
-        Line::Cell { number, cell: item }
-    }
-}
-
-pub struct Tables;
-
-impl Rows for Tables {
-    type Item = Table;
-
-    ghost row = { λ n x. line.Table n x };
-
-    fn line(number: usize, item: Table) -> Line {
-        Line::Table {
-            number,
-            table: item,
-        }
-    }
-}
-
-pub struct Devices;
-
-impl Rows for Devices {
-    type Item = u64;
-
-    ghost row = { λ n x. line.Device n x };
-
-    fn line(number: usize, item: u64) -> Line {
-        Line::Device { number, need: item }
-    }
-}
-
-pub struct Entries;
-
-impl Rows for Entries {
-    type Item = u8;
-
-    ghost row = { λ n x. line.Entry n x };
-
-    fn line(number: usize, item: u8) -> Line {
-        Line::Entry {
-            number,
-            procedure: item,
-        }
-    }
-}
-
-// Adds a line for each of the items, numbered from `first` on.
-pub fn list<R: Rows>(
-    lines: &mut Vec<Line>,
-    items: &[R::Item],
+// Adds a row for each of the items, numbered from `first` on.
+pub(crate) fn add_rows<T: Copy, R: Drop, F: Fn(usize, T) -> R>(
+    rows: &mut Vec<R>,
+    items: &[T],
     first: usize,
+    row: F,
 ) -> Result<(), AllocError>
-    ensures { OnOk result (first + length items.now < 2 ^ 64 → lines.new.items ≡ lines.old.items ++ numbered R.Rows.row first items.now) }
+    requires { F.IsAlwaysCallable row }
+    ensures { (row_of : ℕ → T → R) → GivesRows (F.post row) row_of → first + length items.now < 2 ^ 64 → OnOk result (rows.new.items ≡ rows.old.items ++ numbered row_of first items.now) }
 {
-    let mut number = first;
-    for item in items {
-        lines.push(R::line(number, *item))?;
-        number = number.saturating_add(1);
-    }
-    Ok(())
+    rows.extend(
+        items
+            .iter()
+            .enumerate()
+            .map(|(index, item)| row(first.saturating_add(index), *item)),
+    )
 }
 
 // Adds a heading with the number of the items, then a line for each.
-pub fn list_sort<R: Rows>(
+pub(crate) fn list_sort<T: Copy, F: Fn(usize, T) -> Line>(
     lines: &mut Vec<Line>,
     sort: Sort,
-    items: &[R::Item],
+    items: &[T],
+    line: F,
 ) -> Result<(), AllocError>
-    ensures { OnOk result (lines.new.items ≡ lines.old.items ++ section sort R.Rows.row items.now) }
+    requires { F.IsAlwaysCallable line }
+    ensures { (line_of : ℕ → T → Shown) → GivesRows (F.post line) line_of → OnOk result (lines.new.items ≡ lines.old.items ++ section sort line_of items.now) }
 {
     lines.push(Line::Heading {
         sort,
         count: items.len(),
     })?;
-    list::<R>(lines, items, 0)
+    add_rows(lines, items, 0, line)
 }

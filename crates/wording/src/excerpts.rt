@@ -14,11 +14,10 @@ impl<'a> fmt::Display for Excerpt<'a> {
         let first = offset.saturating_sub(8);
         write!(f, "bytes from offset {first} on:")?;
         for (i, byte) in self.bytes.iter().enumerate().skip(first).take(17) {
-            let shown = *byte;
             if i == offset {
-                write!(f, " [{shown:02x}]")?;
+                write!(f, " [{byte:02x}]")?;
             } else {
-                write!(f, " {shown:02x}")?;
+                write!(f, " {byte:02x}")?;
             }
         }
         if offset >= self.bytes.len() {

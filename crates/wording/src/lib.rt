@@ -1,7 +1,5 @@
-// The text of listings, steps and refusals.
+// The text of excerpts, and of the rights and places that are held.
 #![tactic(auto)]
 
 pub mod excerpts;
-pub mod lines;
 pub mod reach;
-pub mod steps;

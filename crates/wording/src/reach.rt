@@ -11,59 +11,58 @@ impl<'a> fmt::Display for Numbers<'a> {
         if numbers.is_empty() {
             return f.write_str(" none");
         }
-        for number in numbers {
-            let shown = *number;
-            if shown == 0 || !numbers.contains(&(shown - 1)) {
-                write!(f, " {shown}")?;
-            } else if shown == u8::MAX || !numbers.contains(&(shown + 1)) {
-                write!(f, "-{shown}")?;
+        for run in numbers.chunk_by(|low, high| low.checked_add(1) == Some(*high)) {
+            match run {
+                [] => {}
+                [only] => write!(f, " {only}")?,
+                [first, .., last] => write!(f, " {first}-{last}")?,
             }
         }
         Ok(())
     }
 }
 
-// Who holds rights: a party, by its frame, or a device, which needs them of whoever drives it.
-#[derive(Clone, Copy)]
+// Who holds numbers: a party holds rights, by its frame; a device needs rights of whoever drives it; a block may write
+// places.
+#[derive(Clone, Copy, Debug, PartialEq, Eq)]
 pub enum Holder {
     Party,
     Device,
+    Block,
 }
 
-fn holder_name(holder: Holder) -> &'static str {
-    match holder {
-        Holder::Party => "party ",
-        Holder::Device => "device",
+impl Holder {
+    // What its numbers are.
+    fn held(self) -> &'static str {
+        match self {
+            Holder::Party | Holder::Device => "rights",
+            Holder::Block => "places",
+        }
     }
 }
 
-// The rights of a party's frame or of a device's need.
+impl fmt::Display for Holder {
+    fn fmt<W: fmt::Write>(&self, f: &mut fmt::Formatter<W>) -> fmt::Result {
+        f.pad(match self {
+            Holder::Party => "party",
+            Holder::Device => "device",
+            Holder::Block => "block",
+        })
+    }
+}
+
+// The rights or the places of a holder, which has a number among those of its sort.
 #[derive(Drop)]
-pub struct RightsText<'a> {
+pub struct HeldText<'a> {
     pub holder: Holder,
     pub number: usize,
-    pub rights: &'a [u8],
+    pub numbers: &'a [u8],
 }
 
-impl<'a> fmt::Display for RightsText<'a> {
+impl<'a> fmt::Display for HeldText<'a> {
     fn fmt<W: fmt::Write>(&self, f: &mut fmt::Formatter<W>) -> fmt::Result {
-        let (holder, number) = (holder_name(self.holder), self.number);
-        let rights = Numbers(self.rights);
-        write!(f, "  {holder}    {number:>3}  rights{rights}")
-    }
-}
-
-// The places that a block may write.
-#[derive(Drop)]
-pub struct PlacesText<'a> {
-    pub block: usize,
-    pub places: &'a [u8],
-}
-
-impl<'a> fmt::Display for PlacesText<'a> {
-    fn fmt<W: fmt::Write>(&self, f: &mut fmt::Formatter<W>) -> fmt::Result {
-        let block = self.block;
-        let places = Numbers(self.places);
-        write!(f, "  block     {block:>3}  places{places}")
+        let (holder, number, held) = (self.holder, self.number, self.holder.held());
+        let numbers = Numbers(self.numbers);
+        write!(f, "  {holder:<10}{number:>3}  {held}{numbers}")
     }
 }

@@ -9,9 +9,7 @@ mod tests {
     use package::load;
     use std::test::Fail;
     use wording::excerpts::Excerpt;
-    use wording::lines::LineText;
-    use wording::reach::{Holder, PlacesText, RightsText};
-    use wording::steps::StepText;
+    use wording::reach::{HeldText, Holder};
 
     // Two parties and one rule.
     const SMALL: [u8; 74] = [
@@ -61,7 +59,7 @@ mod tests {
         let lines = listing(heap, &held)?;
         assert_eq!(rt; lines.len(), 21);
         for (line, expected) in lines.iter().zip(LISTED.iter()) {
-            let text = LineText(*line).to_string(heap)?;
+            let text = line.to_string(heap)?;
             assert!(rt; text.as_str() == *expected);
         }
         Ok(())
@@ -76,7 +74,7 @@ mod tests {
         let told = steps(heap, held.contents())?;
         assert_eq!(rt; told.len(), 7);
         for (step, expected) in told.iter().zip(TOLD.iter()) {
-            let text = StepText(*step).to_string(heap)?;
+            let text = step.to_string(heap)?;
             assert!(rt; text.as_str() == *expected);
         }
         Ok(())
@@ -90,11 +88,7 @@ mod tests {
         let Err(refusal) = load(heap, &bytes) else {
             return Err(Fail::new("accepted"));
         };
-        let step = Step::Refused {
-            number: refusal.number(),
-            offset: refusal.offset(),
-        };
-        let text = StepText(step).to_string(heap)?;
+        let text = Step::Refused(refusal).to_string(heap)?;
         assert!(rt; text.as_str() == "refused: 7 at offset 62");
         assert!(rt; cause(refusal) == "a command gives an input a value");
         let around = Excerpt {
@@ -153,9 +147,10 @@ mod tests {
     fn neighbouring_places_are_a_range(rt: HostRuntime) -> Result<(), Fail> {
         let heap = rt.alloc();
         for (places, expected) in PLACES.iter() {
-            let text = PlacesText {
-                block: 7,
-                places: *places,
+            let text = HeldText {
+                holder: Holder::Block,
+                number: 7,
+                numbers: *places,
             };
             let shown = text.to_string(heap)?;
             assert!(rt; shown.as_str() == *expected);
@@ -166,17 +161,17 @@ mod tests {
     #[test]
     fn rights_are_told_of_parties_and_devices(rt: HostRuntime) -> Result<(), Fail> {
         let heap = rt.alloc();
-        let party = RightsText {
+        let party = HeldText {
             holder: Holder::Party,
             number: 12,
-            rights: &[62, 63],
+            numbers: &[62, 63],
         };
         let shown = party.to_string(heap)?;
         assert!(rt; shown.as_str() == "  party      12  rights 62-63");
-        let device = RightsText {
+        let device = HeldText {
             holder: Holder::Device,
             number: 0,
-            rights: &[],
+            numbers: &[],
         };
         let shown = device.to_string(heap)?;
         assert!(rt; shown.as_str() == "  device      0  rights none");

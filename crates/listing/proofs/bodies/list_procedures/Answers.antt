@@ -1,13 +1,7 @@
-use Rattle.std.proofs.Common.{rules}
-use Rattle.listing.proofs.Procedures.{telling_start, telling_end, telling_on, first_rest}
+use Rattle.std.proofs.Common.{refl}
+use Rattle.std.proofs.lemmas.List.{drop_more}
+use Rattle.listing.proofs.Procedures.{telling_on}
 use Rattle.listing.proofs.bodies.list_procedures.Goals as goal
 
-pub loop-left-init : goal.loop-left-init
-loop-left-init c = telling_start _ _ _ _
-
-pub loop-left-preserved : goal.loop-left-preserved
-loop-left-preserved c =
-    telling_on c.loop-left.invariant _ _ (first_rest c.loop-left.left.now _ (search rules)) _ _ _ _ _ c.saturating_add-number.ensures c.in_ok-push.ensures.items c.part.ensures c.in_ok-next.ensures
-
-pub returns : goal.returns
-returns c = telling_end c.loop-left.invariant (search rules)
+pub loop-number-preserved : goal.loop-number-preserved
+loop-number-preserved c = telling_on c.loop-number.invariant (drop_more _ _ _ c.loop-number-test.true) c.in_ok-push.ensures.items refl refl c.part-body.ensures c.in_ok-list_block.ensures

@@ -1,8 +1,8 @@
-use Rattle.std.proofs.Common.{◌+◌, ◌*◌, ◌≤◌, length, vec_items}
+use Rattle.std.proofs.Common.{◌+◌, ◌*◌, length}
 use Rattle.layout.specs.Layout.{command_bytes}
 use Rattle.commands.specs.Reads.{flat_of}
 use Rattle.listing.proofs.Tells.{Telling}
-use Rattle.listing.proofs.bodies.+lines.Given as goal
+use Rattle.listing.proofs.bodies.BodyLines.+lines.Given as goal
 
 abbrev pub decreases-list_block : goal.decreases-list_block
 decreases-list_block l = 3 * length l.bytes.now + 2
@@ -17,7 +17,7 @@ abbrev pub decreases-list_commands : goal.decreases-list_commands
 decreases-list_commands l = 3 * length l.bytes.now + 1
 
 abbrev pub invariant-list_commands-loop-command : goal.invariant-list_commands-loop-command
-invariant-list_commands-loop-command l = (length l.rest ≤ length l.bytes) × Telling l.margin.inputs l.margin.depth l.bytes l.at l.number (vec_items l.initial.lines) l.rest l.offset l.next (vec_items l.lines)
+invariant-list_commands-loop-command l = Telling l.depth l.bytes l.at l.initial.self l.rest l.offset l.self
 
 abbrev pub decreases-list_commands-loop-command : goal.decreases-list_commands-loop-command
 decreases-list_commands-loop-command l = length l.rest

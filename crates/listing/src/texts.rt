@@ -1,0 +1,3 @@
+// The text of a listing's lines.
+mod actions;
+mod lines;
