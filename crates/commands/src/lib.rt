@@ -8,6 +8,8 @@ ghost use Rattle.layout.specs.Layout.{loop as flat_loop, grant as flat_grant};
 ghost use Rattle.layout.specs.Tree.{when_place, try_frame};
 ghost use Rattle.commands.specs.Reads.{Reads, ReadsPlain, CutOff, one_block, two_blocks};
 
+use std::fmt;
+
 // What combines two values.
 #[derive(Clone, Copy, Debug, PartialEq, Eq)]
 pub enum Operation {
@@ -16,6 +18,19 @@ pub enum Operation {
     Less,
     Same,
     Bits,
+}
+
+// An operation by the name of its command.
+impl fmt::Display for Operation {
+    fn fmt<W: fmt::Write>(&self, f: &mut fmt::Formatter<W>) -> fmt::Result {
+        f.write_str(match self {
+            Operation::Add => "ADD",
+            Operation::Sub => "SUB",
+            Operation::Less => "LESS",
+            Operation::Same => "SAME",
+            Operation::Bits => "BITS",
+        })
+    }
 }
 
 // A command that runs no block and calls no procedure.

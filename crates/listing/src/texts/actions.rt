@@ -46,18 +46,7 @@ impl fmt::Display for Named<Place> {
     }
 }
 
-// The name of an operation.
-fn name(operation: Operation) -> &'static str {
-    match operation {
-        Operation::Add => "ADD",
-        Operation::Sub => "SUB",
-        Operation::Less => "LESS",
-        Operation::Same => "SAME",
-        Operation::Bits => "BITS",
-    }
-}
-
-// The sign that stands between the places that an operation combines.
+// The sign that stands between the places that an operation combines. Display, which is one, gives its name.
 fn sign(operation: Operation) -> &'static str {
     match operation {
         Operation::Add => "+",
@@ -83,8 +72,8 @@ impl fmt::Display for Named<Plain> {
                 right,
             } => {
                 let (one, other) = (self.place(left), self.place(right));
-                let (name, sign, to) = (name(operation), sign(operation), self.place(target));
-                write!(f, "{name} {one} {sign} {other} to {to}")
+                let (sign, to) = (sign(operation), self.place(target));
+                write!(f, "{operation} {one} {sign} {other} to {to}")
             }
             Plain::Pick {
                 target,
