@@ -35,5 +35,4 @@ pub trait WriteOracle: Sized {
 // What the walking oracle names, every oracle names.
 pub fn walking_smallest<O: WriteOracle>()
     ensures { NamesSmallest O.WriteOracle.sets }
-{
-}
+{}
