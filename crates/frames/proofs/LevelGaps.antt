@@ -2,7 +2,7 @@
 use Rattle.std.proofs.Common.{◌≡◌, ℕ, ◌<◌, ◌≤◌, true, ◌&&◌, ltb, ◌⊎◌, Some, None, sym, arith, tests}
 use Rattle.frames.specs.Kinds.{gap}
 use Rattle.frames.specs.Levels.{levels}
-use Rattle.frames.specs.Gaps.{gap_some, gap_none}
+use Rattle.frames.proofs.Gaps.{gap_some, gap_none}
 
 below : (a b q : ℕ) → b ≤ a ⊎ 64 ≤ a → (ltb q 64 && ltb q b) ≡ true → (ltb q 64 && ltb q a) ≡ true
 below a b q h e = grind (arith, tests)

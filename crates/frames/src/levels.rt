@@ -4,7 +4,6 @@ ghost use Rattle.frames.specs.Levels.{levels};
 ghost use Rattle.frames.specs.LevelLaws.{levels_lawful, max_widens};
 
 use crate::{FrameKind, GrantKind};
-use std::option::Option;
 
 pub struct Levels {}
 

@@ -1,10 +1,9 @@
 // The rights kind: the bits of a code are the rights that it is trusted for.
 ghost use Rattle.std.specs.Prelude.{bit_or};
 ghost use Rattle.frames.specs.Rights.{rights};
-ghost use Rattle.frames.specs.RightGaps.{rights_lawful, or_widens};
+ghost use Rattle.frames.specs.RightLaws.{rights_lawful, or_widens};
 
 use crate::{FrameKind, GrantKind};
-use std::option::Option;
 
 pub struct Rights {}
 

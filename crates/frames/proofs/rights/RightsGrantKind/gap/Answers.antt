@@ -1,5 +1,5 @@
 use Rattle.std.proofs.Common.{arith}
-use Rattle.frames.specs.RightGaps.{no_gap, first_gap}
+use Rattle.frames.proofs.RightGaps.{no_gap, first_gap}
 use Rattle.frames.proofs.rights.RightsGrantKind.gap.Goals as goal
 
 pub returns-then-missing-eq0 : goal.returns-then-missing-eq0
