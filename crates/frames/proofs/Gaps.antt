@@ -1,5 +1,6 @@
 -- The lowest right in a gap, and that a code covers another where there is none.
-use Rattle.std.proofs.Common.{◌≡◌, ℕ, zero, suc, ◌+◌, ◌<◌, ◌≤◌, Bool, true, false, not, ◌&&◌, Some, None, sym, refl, ap, subst, ◌∙◌, ⊎_elim, arith}
+use Rattle.std.proofs.Common.{◌≡◌, ℕ, zero, suc, ◌+◌, ◌<◌, ◌≤◌, Bool, true, false, not, ◌&&◌, Some, None, Option, sym, refl, ap, subst, ◌∙◌, ⊎_elim, arith}
+use Rattle.std.specs.Option.{IfSome, is_some}
 use Rattle.std.specs.List.{find, range_with_len}
 use Rattle.std.proofs.lemmas.Bool.{cond-true, cond-false, cases_Bool, cases_lt}
 use Rattle.std.proofs.lemmas.Option.{none-some}
@@ -59,3 +60,8 @@ gap_covers K L a b e q h =
     (λ (l : q < 64). held _ _ (none_passes (lacks K a b) 64 0 e q (omega arith) l) h)
     (λ (l : 64 ≤ q). clash _ h (L.no_more b q l))
     (cases_lt q 64)
+
+-- an answer that is there exactly where a test passes
+pub told : {g : Option ℕ} {t : Bool} {x : ℕ} (r : Option ℕ) → is_some r ≡ t → IfSome r (λ y. y ≡ x) → (t ≡ true → Some x ≡ g) → (t ≡ false → None ≡ g) → r ≡ g
+told None e h some none = none (sym e)
+told (Some y) e h some none = ap (λ (z : ℕ). Some z) h ∙ some (sym e)

@@ -10,7 +10,7 @@ use Rattle.frames.specs.Rights.{rights}
 use Rattle.frames.proofs.Gaps.{gap_some, gap_none}
 
 -- what b has and a has not
-abbrev missing : ℕ → ℕ → ℕ
+abbrev pub missing : ℕ → ℕ → ℕ
 missing a b = bit_and b (bit_not w64 a)
 
 bit_at-missing : (a b q : ℕ) → a < 2 ^ 64 → q < 64 → bit_at (missing a b) q ≡ min (bit_at b q) (1 - bit_at a q)

@@ -35,6 +35,6 @@ impl GrantKind for Levels {
     }
 
     fn gap(a: u64, b: u64) -> Option<u8> {
-        if a < b && a < 64 { Some(a as u8) } else { None }
+        (a < b.min(64)).then(|| a as u8)
     }
 }

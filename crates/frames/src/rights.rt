@@ -36,10 +36,6 @@ impl GrantKind for Rights {
 
     fn gap(a: u64, b: u64) -> Option<u8> {
         let missing = b & !a;
-        if missing == 0 {
-            None
-        } else {
-            Some(missing.trailing_zeros() as u8)
-        }
+        (missing != 0).then(|| missing.trailing_zeros() as u8)
     }
 }

@@ -3,7 +3,7 @@ use Rattle.std.proofs.Common.{◌≡◌, ℕ, zero, suc, ◌<◌, ◌≤◌, Boo
 use Rattle.std.specs.declared.option.Option.TheVariants as option
 use Rattle.std.proofs.lemmas.Bool.{le-ltb, eq-eqb, eqb-true, cases_Bool, or_left, or_right}
 use Rattle.frames.specs.Kinds.{Lawful, gap}
-use Rattle.frames.specs.Gaps.{gap_covers}
+use Rattle.frames.proofs.Gaps.{gap_covers}
 use Rattle.layout.specs.declared.Table.{Table}
 use Rattle.layout.specs.Tree.{Operation, Plain, set_place, copy_place, combine_places, pick_cell, put_cell, drive_device, asked, Command, plain_command, choose_block, loop_block, grant_block, call_procedure, Commands, no_commands, then_command, Block, numbered_block}
 use Rattle.layout.specs.Program.{Program, body, table}
