@@ -1,7 +1,8 @@
 -- The laws of sets, command by command over the trees of the bodies.
 use Rattle.std.proofs.Common.{◌≡◌, ℕ, ◌<◌, ◌≤◌, true, List, length, sym, subst, ⊎_elim}
-use Rattle.std.specs.List.{AllByRecursion}
+use Rattle.std.specs.List.{All, AllByRecursion}
 use Rattle.std.proofs.lemmas.List.{get_or_past}
+use Rattle.std.proofs.lemmas.List.Elements.{recursion_from_All}
 use Rattle.std.proofs.lemmas.Bool.{cases_lt}
 use Rattle.layout.specs.Tree.{Command, plain_command, choose_block, loop_block, grant_block, call_procedure, Commands, no_commands, then_command, Block, numbered_block}
 use Rattle.layout.specs.Declarations.{Declaration}
@@ -9,7 +10,7 @@ use Rattle.layout.specs.Packages.{Keeps}
 use Rattle.layout.specs.Program.{Program, program, body, no_block}
 use Rattle.oracle_laws.specs.Blocks.{number, commands, blocks, block, EachIn}
 use Rattle.oracle_laws.specs.Sets.{Sets, assigns, runs, Within, Lawful}
-use Rattle.oracle_laws.proofs.Every.{EveryIn, EveryCommands, EveryBlock}
+use Rattle.oracle_laws.proofs.Every.{EveryIn, EveryCommands, EveryBlock, each_joined}
 use Rattle.oracle_laws.proofs.Standing.{Placed, block_number, body_stands, placed_body, placed_block}
 
 -- for block n are named the targets of a command, and all that is named for the blocks that it runs
@@ -23,13 +24,10 @@ NamedCommands P names n cs = EveryCommands (Named P names) n cs
 abbrev pub NamedBlock : Program → Sets → Block → Type 0
 NamedBlock P names b = EveryBlock (Named P names) b
 
-each_both : (A B : Command → Type 0) (cs : Commands) → EachIn A cs → EachIn B cs → EachIn (λ c. A c × B c) cs
-each_both A B no_commands h k = tt
-each_both A B (then_command c cs) h k = ((h.0, k.0), each_both A B cs h.1 k.1)
-
 module _ (P : Program) (names : Sets) (law : Lawful P names) where
   named_at : (n : ℕ) → EachIn (Named P names n) (commands (block P n))
-  named_at n = each_both _ _ (commands (block P n)) (law.targets n) (law.nests n)
+  named_at n =
+      each_joined _ (λ c. All (λ m. Within names m n) (runs P c)) (Named P names n) (commands (block P n)) (λ c t h. (t, recursion_from_All (λ m. Within names m n) (runs P c) h)) (law.targets n) (law.nests n)
 
   mutual
     named_in : (m : ℕ) (c : Command) → Placed P m c → EveryIn (Placed P) c → EveryIn (Named P names) c
