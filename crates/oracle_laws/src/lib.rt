@@ -5,11 +5,13 @@ ghost use Rattle.oracle_laws.specs.Sets.{BroadLawful};
 ghost use Rattle.oracle_laws.specs.Smallest.{SmallestLawful, SmallestLeast};
 
 // Every place for every block: these sets keep the laws.
+#[tactic(auto, using(crate::proofs::Broad::broad_lawful_lem))]
 pub fn broad_lawful()
     ensures { BroadLawful }
 {}
 
 // The sets of what may be written keep the laws.
+#[tactic(auto, using(crate::proofs::Smallest::smallest_lawful_lem))]
 pub fn smallest_lawful()
     ensures { SmallestLawful }
 {}

@@ -170,8 +170,8 @@ module _ (A : Assembly) (L : Lawful A.kind) (P : Program) (q : ℕ) where
     pub seen_new : (cs : List Call) → seen A P q cs ≡ record { devices = devices_seen A P q (new P); read = None } ∷ seen_from A P q (remaining A P q cs) (new P)
     seen_new cs = ap (λ (ss : List Seen). record { devices = devices_seen A P q (new P); read = None } ∷ ss) (seen_remaining cs (new P) (new P) agree_new)
 
-pub agreement : Agreement
-agreement ds keeps A law q small cs es e =
+pub agreement_lem : Agreement
+agreement_lem ds keeps A law q small cs es e =
     let fit = fits_body ds keeps A.names law.oracle in
     seen_new A law.frames (program ds) q small fit cs
     ∙ ap (λ (rs : List Call). record { devices = devices_seen A (program ds) q (new (program ds)); read = None } ∷ seen_from A (program ds) q rs (new (program ds))) e
