@@ -2,7 +2,7 @@
 use Rattle.std.proofs.Common.{◌≡◌, ℕ, zero, suc, ◌<◌, ◌≤◌, Bool, true, false, cond, not, ◌&&◌, eqb, ltb, ◌⊎◌, List, [], ◌∷◌, length, get_or, Option, sym, refl, ap, ◌∙◌, subst, inl, inr, ⊎_elim, arith}
 use borrow.Author.Clash.{clash}
 use Rattle.std.specs.declared.option.Option.TheVariants as option
-use Rattle.std.proofs.lemmas.Bool.{cond_both, le-ltb, eq-eqb, eqb-true, cases_Bool, or_left, or_right}
+use Rattle.std.proofs.lemmas.Bool.{cond_both, le-ltb, eqb-true, cases_Bool, or_left, or_right}
 use Rattle.frames.specs.Kinds.{Lawful, gap}
 use Rattle.frames.proofs.Gaps.{gap_covers}
 use Rattle.layout.specs.declared.Table.{Table}
@@ -20,7 +20,7 @@ use Rattle.rules.specs.Running.{State, place, device, at, tick, write, given, fi
 use Rattle.rules.specs.Calls.{party_frame, no_input}
 use Rattle.rules.proofs.Tests.{by_cond₂, not_within}
 use Rattle.rules.proofs.Each.{Each, each_refl, each_weaker, each_trans, each_at, each_set, each_set_right, each_join}
-use Rattle.rules.proofs.Legal.{Fits, in_table}
+use Rattle.rules.proofs.Legal.{Fits, in_table, target_itself}
 
 -- ---- small facts
 
@@ -244,9 +244,6 @@ module _ (A : Assembly) (L : Lawful A.kind) (P : Program) (q : ℕ) where
 
   abbrev Fit : ℕ → Command → Type 0
   Fit = Fits P A.names
-
-  target_itself : (x : ℕ) → eqb x x ≡ true
-  target_itself x = eq-eqb x x refl
 
   confined_plain : (n o : ℕ) (c : Plain) → Fit n (plain_command o c) → ConfinedRun (A.names n) (run_plain A P o c)
   confined_plain n o (set_place x v) h r s l = confined_write x _ (h.0.0 x (target_itself x)) confined_refl

@@ -19,7 +19,7 @@ use Rattle.rules.specs.declared.Context.{Context}
 use Rattle.rules.specs.Running.{State, place, at, write, first_of, lower_all, lower, told, within, cell_at, put_in, put, obstacle, drive_by, need_of, run_plain, run_entries}
 use Rattle.rules.specs.Calls.{Held, place_in, party_frame, new_input, new_cell, new_device, new, post_answer, posted, started, cycle, after, after_all}
 use Rattle.rules.specs.Leaves.{AllAsItWas, Whole, AlwaysWhole, latest, InputsArePosted, Unmoved, RefusedUnmoved, TrailStays, TrailTells}
-use Rattle.rules.proofs.Legal.{Cells, cells_body, in_table}
+use Rattle.rules.proofs.Legal.{Cells, cells_body, in_table, target_itself}
 use Rattle.rules.proofs.Runs.{Steady, keeps_entries}
 use Rattle.rules.proofs.Agrees.{new_input_lacks}
 
@@ -106,9 +106,6 @@ module _ (A : Assembly) (P : Program) where
       some_first : (o : Option Trail) (t : Trail) → is_some (first_of o (option.Some t)) ≡ true
       some_first option.None t = refl
       some_first (option.Some u) t = refl
-
-  target_itself : (x : ℕ) → eqb x x ≡ true
-  target_itself x = eq-eqb x x refl
 
   leaves_plain : (n o : ℕ) (c : Plain) → Cells P n (plain_command o c) → (r : Context) (s : State) → Leaves inputs s (run_plain A P o c r s)
   leaves_plain n o (set_place x v) h r s = leaves_write x _ s (h x (target_itself x))

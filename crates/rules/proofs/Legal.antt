@@ -1,9 +1,7 @@
 -- What the commands of an accepted package assign: places that the oracle names for their block, and no inputs.
-use Rattle.std.proofs.Common.{◌≡◌, ℕ, zero, suc, ◌+◌, ◌<◌, ◌≤◌, true, eqb, ltb, List, [], ◌∷◌, length, get_or, subst, arith}
-use Rattle.std.specs.List.{AllByRecursion}
+use Rattle.std.proofs.Common.{◌≡◌, ℕ, ◌+◌, ◌<◌, ◌≤◌, true, eqb, ltb, List, length, refl, arith}
 use Rattle.std.proofs.ByRecursion.{All-get_or}
-use Rattle.std.proofs.lemmas.Bool.{ltb-true, leb-true, lt-ltb, le-leb, eqb-true, and_parts, and_from, false≢true}
-use Rattle.layout.specs.declared.Procedure.{Procedure}
+use Rattle.std.proofs.lemmas.Bool.{eq-eqb, ltb-true, leb-true, lt-ltb, le-leb, eqb-true, and_parts, and_from, false≢true}
 use Rattle.layout.specs.declared.Table.{Table}
 use Rattle.layout.specs.Tree.{Plain, set_place, copy_place, combine_places, pick_cell, put_cell, drive_device, Command, plain_command, choose_block, loop_block, grant_block, call_procedure, Commands, no_commands, then_command, Block, numbered_block}
 use Rattle.layout.specs.Layout.{command_bytes, flat, encode_block, choice_head, loop_head, grant_head}
@@ -11,10 +9,10 @@ use Rattle.layout.specs.Folds.{size, size_block}
 use Rattle.layout.specs.Scope.{Scope, cell, plain_named, plain_targets}
 use Rattle.layout.specs.Limits as limits
 use Rattle.layout.specs.Limits.{KeepsCommands, KeepsBlock}
-use Rattle.layout.specs.Declarations.{Declaration, Contents, places}
+use Rattle.layout.specs.Declarations.{Declaration}
 use Rattle.layout.specs.Packages.{Keeps, encode}
-use Rattle.layout.specs.Accepted.{below, LawfulProcedures, Lawful}
-use Rattle.layout.specs.Program.{Program, program, body, table, no_block, no_table}
+use Rattle.layout.specs.Accepted.{below, Lawful}
+use Rattle.layout.specs.Program.{Program, program, body, table, no_table}
 use Rattle.layout.proofs.Lawful.{accepted_lawful_lem}
 use Rattle.oracle_laws.specs.Sets as sets
 use Rattle.oracle_laws.specs.Sets.{Sets, cell_of, target, assigns}
@@ -29,6 +27,10 @@ Cells P n c = (x : ℕ) → assigns P c x ≡ true → length P.contents.inputs 
 -- and the oracle names for block n what it assigns, and all that it names for the blocks that the command runs
 abbrev pub Fits : Program → Sets → ℕ → Command → Type 0
 Fits P names n c = Named P names n c × Cells P n c
+
+-- a place is the target that it is
+pub target_itself : (x : ℕ) → eqb x x ≡ true
+target_itself x = eq-eqb x x refl
 
 -- a cell that the index finds is a cell of the table
 pub in_table : (t : Table) (v : ℕ) → ltb v t.length ≡ true → cell_of t (t.first + v) ≡ true
