@@ -2,6 +2,7 @@
 use Rattle.std.proofs.Common.{◌≡◌, ℕ, zero, suc, ◌<◌, ◌≤◌, Bool, true, false, cond, not, ◌&&◌, eqb, ltb, ◌⊎◌, List, [], ◌∷◌, length, get_or, Option, sym, refl, ap, ◌∙◌, subst, inl, inr, ⊎_elim, arith}
 use borrow.Author.Clash.{clash}
 use Rattle.std.specs.declared.option.Option.TheVariants as option
+use Rattle.std.specs.Option.{option_or}
 use Rattle.std.proofs.lemmas.Bool.{cond_both, le-ltb, eqb-true, cases_Bool, or_left, or_right}
 use Rattle.frames.specs.Kinds.{Lawful, gap}
 use Rattle.frames.proofs.Gaps.{gap_covers}
@@ -16,7 +17,7 @@ use Rattle.rules.specs.declared.Cause.{Cause}
 use Rattle.rules.specs.declared.Cause.TheVariants as cause
 use Rattle.rules.specs.Assembly.{Assembly}
 use Rattle.rules.specs.declared.Context.{Context}
-use Rattle.rules.specs.Running.{State, place, device, at, tick, write, given, first_of, told, basis, under, granted, lowered, lower_all, lower, set_to, copied, combined, within, cell_at, picked, pick, put_in, put, because, obstacle, drive_by, drive, takes, decide, turns, need_of, named, either, run_plain, run, run_commands, run_block, entering, calls, fresh, run_entries}
+use Rattle.rules.specs.Running.{State, place, device, at, tick, write, given, told, basis, under, granted, lowered, lower_all, lower, set_to, copied, combined, within, cell_at, picked, pick, put_in, put, because, obstacle, drive_by, drive, takes, decide, turns, need_of, named, either, run_plain, run, run_commands, run_block, entering, calls, fresh, run_entries}
 use Rattle.rules.specs.Calls.{party_frame, no_input}
 use Rattle.rules.proofs.Tests.{by_cond₂, not_within}
 use Rattle.rules.proofs.Each.{Each, each_refl, each_weaker, each_trans, each_at, each_set, each_set_right, each_join}
@@ -24,7 +25,7 @@ use Rattle.rules.proofs.Legal.{Fits, in_table, target_itself}
 
 -- ---- small facts
 
-first_none : {X : Type 0} (x y : Option X) → first_of x y ≡ option.None → y ≡ option.None
+first_none : {X : Type 0} (x y : Option X) → option_or x y ≡ option.None → y ≡ option.None
 first_none (option.Some x) y e = let z : ◌≡◌ {A = ℕ} 0 1 = cc in absurd (omega arith)
 first_none option.None y e = e
 

@@ -1,6 +1,7 @@
 -- What calls and refused drives leave as it was.
 use Rattle.std.proofs.Common.{◌≡◌, ℕ, zero, suc, ◌+◌, ◌<◌, ◌≤◌, Bool, true, false, cond, ◌&&◌, eqb, ltb, List, [], ◌∷◌, map, length, get_or, set, is_some, is_ok, Option, sym, refl, ap, ◌∙◌, subst, ⊎_elim, arith, length-append}
 use Rattle.std.specs.declared.option.Option.TheVariants as option
+use Rattle.std.specs.Option.{option_or}
 use Rattle.std.proofs.lemmas.List.{length-map, length-set, get_or-set_same, get_or-set_other}
 use Rattle.std.proofs.lemmas.Bool.{cond_both, lt-ltb, eq-eqb, ne_eqb, cases_eq, not-true, cond-true, cond-false, false≢true}
 use Rattle.layout.specs.declared.Table.{Table}
@@ -16,7 +17,7 @@ use Rattle.rules.specs.declared.Call.{Call}
 use Rattle.rules.specs.declared.Call.TheVariants.{Post, Cycle, Read, Show}
 use Rattle.rules.specs.Assembly.{Assembly}
 use Rattle.rules.specs.declared.Context.{Context}
-use Rattle.rules.specs.Running.{State, place, at, write, first_of, lower_all, lower, told, within, cell_at, put_in, put, obstacle, drive_by, need_of, run_plain, run_entries}
+use Rattle.rules.specs.Running.{State, place, at, write, lower_all, lower, told, within, cell_at, put_in, put, obstacle, drive_by, need_of, run_plain, run_entries}
 use Rattle.rules.specs.Calls.{Held, place_in, party_frame, new_input, new_cell, new_device, new, post_answer, posted, started, cycle, after, after_all}
 use Rattle.rules.specs.Leaves.{AllAsItWas, Whole, AlwaysWhole, latest, InputsArePosted, Unmoved, RefusedUnmoved, TrailStays, TrailTells}
 use Rattle.rules.proofs.Legal.{Cells, cells_body, in_table, target_itself}
@@ -100,10 +101,10 @@ module _ (A : Assembly) (P : Program) where
     trail = λ e. some_first s.trail _ ∙ sym (lt-ltb 0 (s.refused + 1) (omega arith));
   }
     where
-      first_stays : (o p : Option Trail) (t : Trail) → o ≡ option.Some t → first_of o p ≡ option.Some t
-      first_stays o p t e = ap (λ (o : Option Trail). first_of o p) e
+      first_stays : (o p : Option Trail) (t : Trail) → o ≡ option.Some t → option_or o p ≡ option.Some t
+      first_stays o p t e = ap (λ (o : Option Trail). option_or o p) e
 
-      some_first : (o : Option Trail) (t : Trail) → is_some (first_of o (option.Some t)) ≡ true
+      some_first : (o : Option Trail) (t : Trail) → is_some (option_or o (option.Some t)) ≡ true
       some_first option.None t = refl
       some_first (option.Some u) t = refl
 
