@@ -5,7 +5,7 @@ ghost use Rattle.frames.specs.LevelLaws.{levels_lawful, max_widens};
 
 use crate::{FrameKind, GrantKind};
 
-pub struct Levels {}
+pub struct Levels;
 
 impl FrameKind for Levels {
     ghost meaning = { levels };

@@ -5,7 +5,7 @@ ghost use Rattle.frames.specs.RightLaws.{rights_lawful, or_widens};
 
 use crate::{FrameKind, GrantKind};
 
-pub struct Rights {}
+pub struct Rights;
 
 impl FrameKind for Rights {
     ghost meaning = { rights };

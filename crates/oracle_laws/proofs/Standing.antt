@@ -1,5 +1,5 @@
 -- Each block of a package stands at its number.
-use Rattle.std.proofs.Common.{◌≡◌, ℕ, zero, suc, ◌+◌, ◌<◌, ◌≤◌, true, eqb, List, [], ◌∷◌, ◌++◌, length, get_or, sym, refl, ap, ◌∙◌, subst, append_assoc, arith, length-append, length-take}
+use Rattle.std.proofs.Common.{◌≡◌, ℕ, zero, suc, ◌+◌, ◌<◌, ◌≤◌, true, eqb, leb, ltb, List, [], ◌∷◌, ◌++◌, length, get_or, sym, refl, ap, ◌∙◌, subst, append_assoc, arith, length-append, length-take}
 use Rattle.std.specs.List.{All, AllByRecursion}
 use Rattle.std.proofs.ByRecursion as ByRecursion
 use Rattle.std.proofs.lemmas.List.Elements.{All-nil, All-cons, All-get_or, All-from_get_or, All-weaker}
@@ -177,7 +177,9 @@ module _ (P : Program) (k : ℕ) (cells : (t : ℕ) → t < length P.contents.ta
   target_declared (put_cell t a b) h x e =
       let d = ltb-true t (length P.contents.tables) (and_parts _ _ (and_parts _ _ h).0).0 in
       let i = cells t d in
-      let l : x < (table P t).first + (table P t).length = ltb-true _ _ (and_parts _ _ e).1 in
+      let f = (table P t).first in
+      let n = (table P t).length in
+      let l = ltb-true x (f + n) (and_parts (leb f x) (ltb x (f + n)) e).1 in
       omega arith
   target_declared (drive_device d a) h x e = absurd (false≢true e)
 
