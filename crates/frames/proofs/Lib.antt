@@ -1,1 +1,3 @@
+pub mod Gaps
+pub mod RightGaps
 pub mod LevelGaps

@@ -1,6 +1,7 @@
 -- Frames. A right is a number from 0 to 63, a frame is a code of 64 bits, and a frame kind says for which rights
 -- each code is trusted.
-use Rattle.std.specs.Prelude.{◌≡◌, ℕ, zero, suc, ◌<◌, ◌≤◌, Bool, true, false, cond, not, ◌&&◌, ◌||◌, Some, None, Option}
+use Rattle.std.specs.Prelude.{◌≡◌, ℕ, ◌<◌, ◌≤◌, Bool, true, false, not, ◌&&◌, ◌||◌, find, Option}
+use Rattle.std.specs.List.{range_with_len}
 
 -- What a kind says: the code that is trusted for all, the code of what came from two others, and whether a code is
 -- trusted for a right.
@@ -19,18 +20,13 @@ pub record Lawful (K : Kind) : Type 0 where
 abbrev pub Widens : Kind → (ℕ → ℕ → ℕ) → Type 0
 Widens K widen = (a b q : ℕ) → K.holds (widen a b) q ≡ (K.holds a q || K.holds b q)
 
--- The lowest of k numbers, from i on, that passes a test.
-unfoldable pub lowest : (ℕ → Bool) → ℕ → ℕ → Option ℕ
-lowest test zero i = None
-lowest test (suc k) i = cond (test i) (Some i) (lowest test k (suc i))
-
 -- Code b is trusted for right q, and a is not.
 abbrev pub lacks : Kind → ℕ → ℕ → ℕ → Bool
 lacks K a b q = K.holds b q && not (K.holds a q)
 
 -- The lowest right for which b is trusted and a is not.
 unfoldable pub gap : Kind → ℕ → ℕ → Option ℕ
-gap K a b = lowest (lacks K a b) 64 0
+gap K a b = find (lacks K a b) (range_with_len 0 64)
 
 -- Code a is trusted for every right that b is.
 abbrev pub Covers : Kind → ℕ → ℕ → Type 0

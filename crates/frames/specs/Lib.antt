@@ -1,7 +1,5 @@
 pub mod Kinds
 pub mod Rights
+pub mod RightLaws
 pub mod Levels
 pub mod LevelLaws
-pub mod RightGaps
-pub mod Bits
-pub mod Gaps

@@ -4,9 +4,8 @@ ghost use Rattle.frames.specs.Levels.{levels};
 ghost use Rattle.frames.specs.LevelLaws.{levels_lawful, max_widens};
 
 use crate::{FrameKind, GrantKind};
-use std::option::Option;
 
-pub struct Levels {}
+pub struct Levels;
 
 impl FrameKind for Levels {
     ghost meaning = { levels };
@@ -36,6 +35,6 @@ impl GrantKind for Levels {
     }
 
     fn gap(a: u64, b: u64) -> Option<u8> {
-        if a < b && a < 64 { Some(a as u8) } else { None }
+        (a < b.min(64)).then(|| a as u8)
     }
 }

@@ -1,10 +1,8 @@
 // Frame kinds: a frame is a code of 64 bits, and a kind says for which rights each code is trusted.
 #![tactic(auto)]
 
-ghost use Rattle.std.specs.Prelude.{◌≡◌, ℕ, Bool, true, false};
+ghost use Rattle.std.specs.Prelude.{◌≡◌, ◌↔◌, ℕ, IsTrue};
 ghost use Rattle.frames.specs.Kinds.{Kind, Lawful, Widens, Covers, gap as gap_of};
-
-use std::option::Option;
 
 pub mod levels;
 pub mod rights;
@@ -45,8 +43,7 @@ pub trait GrantKind: FrameKind {
 
 // Whether `a` is trusted for every right that `b` is.
 pub fn covers<K: GrantKind>(a: u64, b: u64) -> bool
-    ensures covered { result ≡ true → Covers K.FrameKind.meaning a b }
-    ensures covering { Covers K.FrameKind.meaning a b → result ≡ true }
+    ensures { IsTrue result ↔ Covers K.FrameKind.meaning a b }
 {
     K::gap(a, b).is_none()
 }

@@ -1,12 +1,11 @@
 // The rights kind: the bits of a code are the rights that it is trusted for.
 ghost use Rattle.std.specs.Prelude.{bit_or};
 ghost use Rattle.frames.specs.Rights.{rights};
-ghost use Rattle.frames.specs.RightGaps.{rights_lawful, or_widens};
+ghost use Rattle.frames.specs.RightLaws.{rights_lawful, or_widens};
 
 use crate::{FrameKind, GrantKind};
-use std::option::Option;
 
-pub struct Rights {}
+pub struct Rights;
 
 impl FrameKind for Rights {
     ghost meaning = { rights };
@@ -37,10 +36,6 @@ impl GrantKind for Rights {
 
     fn gap(a: u64, b: u64) -> Option<u8> {
         let missing = b & !a;
-        if missing == 0 {
-            None
-        } else {
-            Some(missing.trailing_zeros() as u8)
-        }
+        (missing != 0).then(|| missing.trailing_zeros() as u8)
     }
 }

@@ -1,27 +1,14 @@
 -- Every place for every block: these sets keep the laws.
-use Rattle.std.proofs.Common.{◌≡◌, ℕ, ◌<◌, ◌≤◌, true, List, [], ◌∷◌, length, sym, subst, ⊎_elim}
-use Rattle.std.specs.List.{AllByRecursion}
+use Rattle.std.proofs.Common.{◌≡◌, ℕ, ◌<◌, ◌≤◌, true, length, sym, subst, ⊎_elim}
 use Rattle.std.proofs.lemmas.List.{get_or_past}
 use Rattle.std.proofs.lemmas.Bool.{ltb-true, lt-ltb, and_parts, and_from, cases_lt}
-use Rattle.layout.specs.Tree.{Command, Commands, no_commands, then_command, Block}
+use Rattle.layout.specs.Tree.{Command, Block}
 use Rattle.layout.specs.Declarations.{places}
 use Rattle.layout.specs.Program.{Program, program, no_block}
 use Rattle.oracle_laws.specs.Blocks.{commands, blocks, block, EachIn}
-use Rattle.oracle_laws.specs.Sets.{runs, Within, OracleLaws, broad}
-use Rattle.oracle_laws.proofs.Every.{of_block}
+use Rattle.oracle_laws.specs.Sets.{OracleLaws, broad}
+use Rattle.oracle_laws.proofs.Every.{of_block, each_weaker, each_of}
 use Rattle.oracle_laws.proofs.Standing.{Assigns, assigns_block}
-
-each_weaker : (A B : Command → Type 0) (cs : Commands) → ((c : Command) → A c → B c) → EachIn A cs → EachIn B cs
-each_weaker A B no_commands f h = tt
-each_weaker A B (then_command c cs) f h = (f c h.0, each_weaker A B cs f h.1)
-
-each_of : (A : Command → Type 0) (cs : Commands) → ((c : Command) → A c) → EachIn A cs
-each_of A no_commands f = tt
-each_of A (then_command c cs) f = (f c, each_of A cs f)
-
-all_of : (Q : ℕ → Type 0) (ns : List ℕ) → ((n : ℕ) → Q n) → AllByRecursion Q ns
-all_of Q [] f = tt
-all_of Q (n ∷ ns) f = (f n, all_of Q ns f)
 
 -- what holds in each block that is there holds in each block
 by_there : (P : Program) (A : Command → Type 0) (n : ℕ) → (n < length (blocks P) → EachIn A (commands (block P n))) → EachIn A (commands (block P n))
@@ -43,7 +30,7 @@ broad_lawful_lem =
           let P : Program = program ds in
           record {
             targets = λ n. by_there P _ n (λ l. each_weaker (Assigns P n) _ (commands (block P n)) (λ c h x e. broad_from P n x l (h x e)) (of_block (Assigns P n) (block P n) (assigns_block ds kept n)));
-            nests = λ n. by_there P _ n (λ l. each_of _ (commands (block P n)) (λ c. all_of (λ m. Within (broad P) m n) (runs P c) (λ m x e. broad_from P n x l (broad_parts P m x e).1)));
+            nests = λ n. by_there P _ n (λ l. each_of _ (commands (block P n)) (λ c k d _ x e. broad_from P n x l (broad_parts P _ x e).1));
           };
       declared = λ ds kept n x e. broad_parts (program ds) n x e;
     }

@@ -1,6 +1,8 @@
 -- Each block lies in the bytes where its span says, and each body where its procedure says.
 use Rattle.std.proofs.Common.{◌≡◌, ℕ, zero, suc, ◌+◌, ◌<◌, List, [], ◌∷◌, ◌++◌, length, get_or, take, drop, sym, refl, ap, ◌∙◌, subst, append_assoc, arith, take-append-drop, drop-drop}
-use lib.Seq.{take-append_seam, drop-append_seam}
+use Rattle.std.specs.List.{AllZip}
+use Rattle.std.proofs.Math.Seq.{take-append_seam, drop-append_seam}
+use Rattle.std.proofs.lemmas.Slice.Zip.{AllZip-long}
 use Rattle.layout.specs.declared.Procedure.{Procedure}
 use Rattle.layout.specs.declared.Span.{Span}
 use Rattle.layout.specs.Tree.{Choice, when_place, try_frame, Command, plain_command, choose_block, loop_block, grant_block, call_procedure, Commands, no_commands, then_command, Block, numbered_block}
@@ -37,22 +39,13 @@ module _ (all : List ℕ) where
   Holds s b = take s.length (drop s.start all) ≡ encode_block b
 
   abbrev Pairs : List Span → List Block → Type 0
-  Pairs [] [] = Unit {0}
-  Pairs [] (b ∷ bs) = ⊥
-  Pairs (s ∷ ss) [] = ⊥
-  Pairs (s ∷ ss) (b ∷ bs) = Holds s b × Pairs ss bs
+  Pairs = AllZip Holds
 
   pairs_append : (ss : List Span) (bs : List Block) (ts : List Span) (cs : List Block) → Pairs ss bs → Pairs ts cs → Pairs (ss ++ ts) (bs ++ cs)
   pairs_append [] [] ts cs h k = k
   pairs_append [] (b ∷ bs) ts cs h k = absurd h
   pairs_append (s ∷ ss) [] ts cs h k = absurd h
   pairs_append (s ∷ ss) (b ∷ bs) ts cs h k = (h.0, pairs_append ss bs ts cs h.1 k)
-
-  pairs_length : (ss : List Span) (bs : List Block) → Pairs ss bs → length ss ≡ length bs
-  pairs_length [] [] h = refl
-  pairs_length [] (b ∷ bs) h = absurd h
-  pairs_length (s ∷ ss) [] h = absurd h
-  pairs_length (s ∷ ss) (b ∷ bs) h = ap suc (pairs_length ss bs h.1)
 
   pairs_at : (ss : List Span) (bs : List Block) (n : ℕ) (none : Span) → Pairs ss bs → n < length ss → Holds (get_or ss n none) (get_or bs n no_block)
   pairs_at [] bs n none h l = absurd (omega arith)
@@ -114,7 +107,7 @@ module _ (all : List ℕ) (ds : List Declaration) (laws : Lawful all (program ds
   pairs = subst (λ (ss : List Span). Pairs all ss (blocks P)) (sym laws.spans) (pairs_bodies all P.contents.procedures P.bodies laws.lie)
 
   pub as_many_blocks : length P.contents.spans ≡ length (blocks P)
-  as_many_blocks = pairs_length all P.contents.spans (blocks P) pairs
+  as_many_blocks = sym (AllZip-long (Holds all) P.contents.spans (blocks P) pairs)
 
   pub block_lies : (n : ℕ) (none : Span) → n < length P.contents.spans → take (get_or P.contents.spans n none).length (drop (get_or P.contents.spans n none).start all) ≡ encode_block (block P n)
   block_lies n none l = pairs_at all P.contents.spans (blocks P) n none pairs l

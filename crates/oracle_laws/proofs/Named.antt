@@ -1,16 +1,17 @@
 -- The laws of sets, command by command over the trees of the bodies.
 use Rattle.std.proofs.Common.{◌≡◌, ℕ, ◌<◌, ◌≤◌, true, List, length, sym, subst, ⊎_elim}
-use Rattle.std.specs.List.{AllByRecursion}
+use Rattle.std.specs.List.{All, AllByRecursion}
 use Rattle.std.proofs.lemmas.List.{get_or_past}
+use Rattle.std.proofs.lemmas.List.Elements.{recursion_from_All}
 use Rattle.std.proofs.lemmas.Bool.{cases_lt}
 use Rattle.layout.specs.Tree.{Command, plain_command, choose_block, loop_block, grant_block, call_procedure, Commands, no_commands, then_command, Block, numbered_block}
 use Rattle.layout.specs.Declarations.{Declaration}
 use Rattle.layout.specs.Packages.{Keeps}
 use Rattle.layout.specs.Program.{Program, program, body, no_block}
-use Rattle.oracle_laws.specs.Blocks.{number, commands, blocks, block, EachIn}
+use Rattle.oracle_laws.specs.Blocks.{number, commands, block, EachIn}
 use Rattle.oracle_laws.specs.Sets.{Sets, assigns, runs, Within, Lawful}
-use Rattle.oracle_laws.proofs.Every.{EveryIn, EveryCommands, EveryBlock}
-use Rattle.oracle_laws.proofs.Standing.{Placed, block_number, body_stands, placed_body, placed_block}
+use Rattle.oracle_laws.proofs.Every.{EveryIn, EveryCommands, EveryBlock, each_joined}
+use Rattle.oracle_laws.proofs.Standing.{Placed, body_stands, placed_body, placed_block}
 
 -- for block n are named the targets of a command, and all that is named for the blocks that it runs
 abbrev pub Named : Program → Sets → ℕ → Command → Type 0
@@ -23,13 +24,10 @@ NamedCommands P names n cs = EveryCommands (Named P names) n cs
 abbrev pub NamedBlock : Program → Sets → Block → Type 0
 NamedBlock P names b = EveryBlock (Named P names) b
 
-each_both : (A B : Command → Type 0) (cs : Commands) → EachIn A cs → EachIn B cs → EachIn (λ c. A c × B c) cs
-each_both A B no_commands h k = tt
-each_both A B (then_command c cs) h k = ((h.0, k.0), each_both A B cs h.1 k.1)
-
 module _ (P : Program) (names : Sets) (law : Lawful P names) where
   named_at : (n : ℕ) → EachIn (Named P names n) (commands (block P n))
-  named_at n = each_both _ _ (commands (block P n)) (law.targets n) (law.nests n)
+  named_at n =
+      each_joined _ (λ c. All (λ m. Within names m n) (runs P c)) (Named P names n) (commands (block P n)) (λ c t h. (t, recursion_from_All (λ m. Within names m n) (runs P c) h)) (law.targets n) (law.nests n)
 
   mutual
     named_in : (m : ℕ) (c : Command) → Placed P m c → EveryIn (Placed P) c → EveryIn (Named P names) c
@@ -63,13 +61,3 @@ module _ (ds : List Declaration) (kept : Keeps ds) (names : Sets) (law : Lawful 
 
   pub named_commands : (n : ℕ) → NamedCommands P names n (commands (block P n))
   named_commands n = of_placed P names law n (block P n) (named_at P names law n) (placed_block ds kept n)
-
-  pub named_whole : (n : ℕ) → NamedBlock P names (block P n)
-  named_whole n =
-      ⊎_elim
-      (λ (l : n < length (blocks P)). by_number (block P n) n (block_number ds kept n l) (named_commands n))
-      (λ (l : length (blocks P) ≤ n). subst (NamedBlock P names) (sym (get_or_past (blocks P) n no_block l)) tt)
-      (cases_lt n (length (blocks P)))
-    where
-      by_number : (b : Block) (m : ℕ) → number b ≡ m → NamedCommands P names m (commands b) → NamedBlock P names b
-      by_number (numbered_block i cs) m e h = subst (λ (j : ℕ). NamedCommands P names j cs) (sym e) h

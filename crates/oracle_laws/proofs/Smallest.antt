@@ -1,6 +1,8 @@
 -- The smallest sets keep the laws, and what keeps the laws names all that they name.
-use Rattle.std.proofs.Common.{◌≡◌, ℕ, zero, suc, ◌<◌, true, List, [], ◌∷◌, length, sym, refl, ap, ◌∙◌, subst, ⊎_elim, arith}
-use Rattle.std.specs.List.{AllByRecursion}
+use Rattle.std.proofs.Common.{◌≡◌, ℕ, zero, suc, ◌<◌, true, List, length, sym, refl, ap, ◌∙◌, subst, ⊎_elim, arith}
+use Rattle.std.specs.List.{All, AllByRecursion}
+use Rattle.std.proofs.ByRecursion.{All-weaker}
+use Rattle.std.proofs.lemmas.List.Elements.{All-from_recursion}
 use Rattle.std.proofs.lemmas.Bool.{eq-eqb, ne_eqb, cases_eq, cond-true, cond-false, or_cases, or_left, or_right, false≢true}
 use Rattle.layout.specs.Tree.{Command, plain_command, choose_block, loop_block, grant_block, call_procedure, Commands, no_commands, then_command, Block, numbered_block}
 use Rattle.layout.specs.Declarations.{Declaration}
@@ -33,7 +35,7 @@ module _ (ds : List Declaration) (kept : Keeps ds) where
   pub at_body : (p : ℕ) → p < top → (x : ℕ) → smallest P (number (body P p)) x ≡ env p x
   at_body p l x =
       at_block (body P p) (body_stands ds kept p l) x
-      ∙ agree_block P env (called_below P p) p x (λ q h. called_at P top q x (omega arith) ∙ sym (called_at P p q x h)) (body P p) (calls_body ds kept p l)
+      ∙ agree_block P env (called_below P p) p x (λ q h. called_at P top q x (omega arith) ∙ sym (called_at P p q x h)) (body P p) (calls_body ds kept p)
       ∙ sym (called_at P top p x l)
 
   assigns_writes : (c : Command) (x : ℕ) → assigns P c x ≡ true → writes P env c x ≡ true
@@ -56,9 +58,8 @@ module _ (ds : List Declaration) (kept : Keeps ds) where
   runs_writes n (grant_block g b) h k = (λ x w. sym (at_block b h.0 x) ∙ w, tt)
   runs_writes n (call_procedure p) h k = (λ x w. sym (at_body p k.0 x) ∙ w, tt)
 
-  within : (n : ℕ) (ns : List ℕ) (c : Command) → ((x : ℕ) → writes P env c x ≡ true → smallest P n x ≡ true) → AllByRecursion (λ m. Writes m c) ns → AllByRecursion (λ m. Within (smallest P) m n) ns
-  within n [] c f h = tt
-  within n (m ∷ ns) c f h = (λ x w. f x (h.0 x w), within n ns c f h.1)
+  within : (n m : ℕ) (c : Command) → ((x : ℕ) → writes P env c x ≡ true → smallest P n x ≡ true) → Placed P m c → Calls top m c → All (λ m. Within (smallest P) m n) (runs P c)
+  within n m c f h k = All-from_recursion _ (runs P c) (All-weaker (λ m. Writes m c) (λ m. Within (smallest P) m n) (λ m g x w. f x (g x w)) (runs P c) (runs_writes m c h k))
 
   abbrev Inside : ℕ → Commands → Type 0
   Inside n cs = (x : ℕ) → writes_commands P env cs x ≡ true → smallest P n x ≡ true
@@ -67,15 +68,15 @@ module _ (ds : List Declaration) (kept : Keeps ds) where
   targets n no_commands f = tt
   targets n (then_command c cs) f = (λ x e. f x (or_left _ _ (assigns_writes c x e)), targets n cs (λ x w. f x (or_right _ _ w)))
 
-  nests : (n m i : ℕ) (cs : Commands) → Inside n cs → EveryCommands (Placed P) m cs → EveryCommands (Calls top) i cs → EachIn (λ c. AllByRecursion (λ m. Within (smallest P) m n) (runs P c)) cs
+  nests : (n m i : ℕ) (cs : Commands) → Inside n cs → EveryCommands (Placed P) m cs → EveryCommands (Calls top) i cs → EachIn (λ c. All (λ m. Within (smallest P) m n) (runs P c)) cs
   nests n m i no_commands f h k = tt
   nests n m i (then_command c cs) f h k =
-      (within n (runs P c) c (λ x w. f x (or_left _ _ w)) (runs_writes m c h.0 k.0), nests n m i cs (λ x w. f x (or_right _ _ w)) h.2 k.2)
+      (within n m c (λ x w. f x (or_left _ _ w)) h.0 k.0, nests n m i cs (λ x w. f x (or_right _ _ w)) h.2 k.2)
 
-  by_block : (n : ℕ) (b : Block) → ((x : ℕ) → writes_block P env b x ≡ true → smallest P n x ≡ true) → EveryBlock (Placed P) b → EveryBlock (Calls top) b → EachIn (λ c. (x : ℕ) → assigns P c x ≡ true → smallest P n x ≡ true) (commands b) × EachIn (λ c. AllByRecursion (λ m. Within (smallest P) m n) (runs P c)) (commands b)
+  by_block : (n : ℕ) (b : Block) → ((x : ℕ) → writes_block P env b x ≡ true → smallest P n x ≡ true) → EveryBlock (Placed P) b → EveryBlock (Calls top) b → EachIn (λ c. (x : ℕ) → assigns P c x ≡ true → smallest P n x ≡ true) (commands b) × EachIn (λ c. All (λ m. Within (smallest P) m n) (runs P c)) (commands b)
   by_block n (numbered_block i cs) f h k = (targets n cs f, nests n i i cs f h k)
 
-  both : (n : ℕ) → EachIn (λ c. (x : ℕ) → assigns P c x ≡ true → smallest P n x ≡ true) (commands (block P n)) × EachIn (λ c. AllByRecursion (λ m. Within (smallest P) m n) (runs P c)) (commands (block P n))
+  both : (n : ℕ) → EachIn (λ c. (x : ℕ) → assigns P c x ≡ true → smallest P n x ≡ true) (commands (block P n)) × EachIn (λ c. All (λ m. Within (smallest P) m n) (runs P c)) (commands (block P n))
   both n = by_block n (block P n) (λ x w. w) (placed_block ds kept n) (calls_block ds kept n)
 
   -- whatever keeps the laws

@@ -1,11 +1,11 @@
 -- Each block of a package stands at its number.
-use Rattle.std.proofs.Common.{◌≡◌, ℕ, zero, suc, ◌+◌, ◌<◌, ◌≤◌, true, eqb, List, [], ◌∷◌, ◌++◌, length, get_or, sym, refl, ap, ◌∙◌, subst, append_assoc, arith, length-append, length-take}
-use Rattle.std.specs.List.{AllByRecursion}
-use Rattle.std.proofs.ByRecursion.{All-get_or, All-from_get_or, All-weaker}
-use Rattle.std.proofs.lemmas.List.{get_or-append-add}
+use Rattle.std.proofs.Common.{◌≡◌, ℕ, zero, suc, ◌+◌, ◌<◌, ◌≤◌, true, eqb, leb, ltb, List, [], ◌∷◌, ◌++◌, length, get_or, sym, refl, ap, ◌∙◌, subst, append_assoc, arith, length-append, length-take}
+use Rattle.std.specs.List.{All, AllByRecursion}
+use Rattle.std.proofs.ByRecursion as ByRecursion
+use Rattle.std.proofs.lemmas.List.Elements.{All-nil, All-cons, All-get_or, All-from_get_or, All-weaker}
+use Rattle.std.proofs.Math.Seq.{get_or-append_seam}
 use Rattle.std.proofs.lemmas.Bool.{ltb-true, eqb-true, and_parts, false≢true}
 use Rattle.layout.specs.declared.Procedure.{Procedure}
-use Rattle.layout.specs.declared.Table.{Table}
 use Rattle.layout.specs.Tree.{Plain, set_place, copy_place, combine_places, pick_cell, put_cell, drive_device, Command, plain_command, choose_block, loop_block, grant_block, call_procedure, Commands, no_commands, then_command, Block, numbered_block}
 use Rattle.layout.specs.Layout.{command_bytes, flat, encode_block, choice_head, loop_head, grant_head}
 use Rattle.layout.specs.Folds.{size, size_commands, size_block}
@@ -62,8 +62,7 @@ module _ (all : List Block) where
 
   stands : (us vs : List Block) (b : Block) → all ≡ us ++ (b ∷ vs) → number b ≡ length us → Stands b
   stands us vs b e l =
-      let i : number b ≡ length us + 0 = omega arith in
-      ap (λ (n : ℕ). get_or all n no_block) i ∙ ap (λ (bs : List Block). get_or bs (length us + 0) no_block) e ∙ get_or-append-add us (b ∷ vs) 0 no_block
+      ap (λ (n : ℕ). get_or all n no_block) l ∙ ap (λ (bs : List Block). get_or bs (length us) no_block) e ∙ get_or-append_seam us b vs no_block
 
   -- behind the blocks of us, which have the numbers below n
   mutual
@@ -95,56 +94,14 @@ module _ (all : List Block) where
         let m : length (us ++ (numbered_block i cs ∷ [])) ≡ n + 1 = omega (arith, length-append us (numbered_block i cs ∷ [])) in
         (stands us (inside_commands cs ++ vs) (numbered_block i cs) e (k.0 ∙ sym l), stand_all w i cs d (n + 1) at (us ++ (numbered_block i cs ∷ [])) vs f m k.1)
 
-  stand_bodies : (c : Contents) (k n : ℕ) (ps : List Procedure) (bs us : List Block) → all ≡ us ++ entered_all bs → length us ≡ n → LawfulProcedures c k n ps bs → AllByRecursion (λ b. Stands b × EveryBlock Stand b) bs
-  stand_bodies c k n [] [] us e l h = tt
+  stand_bodies : (c : Contents) (k n : ℕ) (ps : List Procedure) (bs us : List Block) → all ≡ us ++ entered_all bs → length us ≡ n → LawfulProcedures c k n ps bs → All (λ b. Stands b × EveryBlock Stand b) bs
+  stand_bodies c k n [] [] us e l h = All-nil (λ b. Stands b × EveryBlock Stand b)
   stand_bodies c k n [] (b ∷ bs) us e l h = absurd h
   stand_bodies c k n (p ∷ ps) [] us e l h = absurd h
   stand_bodies c k n (p ∷ ps) (b ∷ bs) us e l h =
       let f : all ≡ (us ++ entered b) ++ entered_all bs = e ∙ sym (append_assoc us (entered b) (entered_all bs)) in
       let m : length (us ++ entered b) ≡ n + size_block b = omega (arith, length-append us (entered b), length-entered b) in
-      (stand_block (below c k) b 0 n p.start us (entered_all bs) e l h.0.body, stand_bodies c (k + 1) (n + size_block b) ps bs (us ++ entered b) f m h.1)
-
--- blocks numbered one after another, from n on
-abbrev Numbered : ℕ → List Block → Type 0
-Numbered n [] = Unit {0}
-Numbered n (b ∷ bs) = (number b ≡ n) × Numbered (n + 1) bs
-
-numbered-append : (n m : ℕ) (us vs : List Block) → n + length us ≡ m → Numbered n us → Numbered m vs → Numbered n (us ++ vs)
-numbered-append n m [] vs e h k = let z : m ≡ n = omega arith in subst (λ (i : ℕ). Numbered i vs) z k
-numbered-append n m (b ∷ us) vs e h k = (h.0, numbered-append (n + 1) m us vs (omega arith) h.1 k)
-
-numbered_at : (n : ℕ) (bs : List Block) (k : ℕ) → k < length bs → Numbered n bs → number (get_or bs k no_block) ≡ n + k
-numbered_at n [] k l h = absurd (omega arith)
-numbered_at n (b ∷ bs) zero l h = omega (arith, h.0)
-numbered_at n (b ∷ bs) (suc k) l h = let r = numbered_at (n + 1) bs k (omega arith) h.1 in omega arith
-
-module _ (w : Scope) where
-  mutual
-    numbered_in : (c : Command) (d n at : ℕ) → limits.Keeps w d n at c → Numbered n (inside c)
-    numbered_in (plain_command o c) d n at k = tt
-    numbered_in (choose_block c b e) d n at k =
-        let l = length-entered b in
-        numbered-append n (n + size_block b) (entered b) (entered e) (omega arith) (numbered_by_block b (d + 1) n (at + choice_head c) k.1) (numbered_by_block e (d + 1) (n + size_block b) (at + choice_head c + length (encode_block b)) k.2)
-    numbered_in (loop_block a t b) d n at k = numbered_by_block b (d + 1) n (at + loop_head) k.1
-    numbered_in (grant_block g b) d n at k = numbered_by_block b (d + 1) n (at + grant_head) k.1
-    numbered_in (call_procedure p) d n at k = tt
-
-    numbered_all : (cs : Commands) (d n at : ℕ) → KeepsCommands w d n at cs → Numbered n (inside_commands cs)
-    numbered_all no_commands d n at k = tt
-    numbered_all (then_command c cs) d n at k =
-        let l = length-inside c in
-        numbered-append n (n + size c) (inside c) (inside_commands cs) (omega arith) (numbered_in c d n at k.0) (numbered_all cs d (n + size c) (at + length (command_bytes (flat c))) k.1)
-
-    numbered_by_block : (b : Block) (d n at : ℕ) → KeepsBlock w d n at b → Numbered n (entered b)
-    numbered_by_block (numbered_block i cs) d n at k = (k.0, numbered_all cs d (n + 1) at k.1)
-
-numbered_bodies : (c : Contents) (k n : ℕ) (ps : List Procedure) (bs : List Block) → LawfulProcedures c k n ps bs → Numbered n (entered_all bs)
-numbered_bodies c k n [] [] h = tt
-numbered_bodies c k n [] (b ∷ bs) h = absurd h
-numbered_bodies c k n (p ∷ ps) [] h = absurd h
-numbered_bodies c k n (p ∷ ps) (b ∷ bs) h =
-    let l = length-entered b in
-    numbered-append n (n + size_block b) (entered b) (entered_all bs) (omega arith) (numbered_by_block (below c k) b 0 n p.start h.0.body) (numbered_bodies c (k + 1) (n + size_block b) ps bs h.1)
+      All-cons (λ b. Stands b × EveryBlock Stand b) b bs (stand_block (below c k) b 0 n p.start us (entered_all bs) e l h.0.body) (stand_bodies c (k + 1) (n + size_block b) ps bs (us ++ entered b) f m h.1)
 
 -- what a body may name, its commands name
 module _ (w : Scope) where
@@ -171,14 +128,19 @@ module _ (w : Scope) where
 abbrev pub NamesBelow : Contents → ℕ → ℕ → Command → Type 0
 NamesBelow c k n x = named (below c k) (flat x) ≡ true
 
-names_bodies : (c : Contents) (k n : ℕ) (ps : List Procedure) (bs : List Block) → LawfulProcedures c k n ps bs → (p : ℕ) → p < length bs → EveryBlock (NamesBelow c (k + p)) (get_or bs p no_block)
-names_bodies c k n [] [] h p l = absurd (omega arith)
-names_bodies c k n [] (b ∷ bs) h p l = absurd h
-names_bodies c k n (q ∷ ps) [] h p l = absurd h
-names_bodies c k n (q ∷ ps) (b ∷ bs) h zero l =
-    let e : k ≡ k + 0 = omega arith in subst (λ (j : ℕ). EveryBlock (NamesBelow c j) b) e (names_block (below c k) b 0 n q.start h.0.body)
-names_bodies c k n (q ∷ ps) (b ∷ bs) h (suc p) l =
-    let e : k + 1 + p ≡ k + suc p = omega arith in subst (λ (j : ℕ). EveryBlock (NamesBelow c j) (get_or bs p no_block)) e (names_bodies c (k + 1) (n + size_block b) ps bs h.1 p (omega arith))
+-- what holds of each lawful procedure and its body holds of each body by its number, also of one that is not there
+by_procedure_from : (c : Contents) (Q : ℕ → Block → Type 0) → ((k : ℕ) → Q k no_block) → ((k n at : ℕ) (b : Block) → KeepsBlock (below c k) 0 n at b → Q k b) → (k n : ℕ) (ps : List Procedure) (bs : List Block) → LawfulProcedures c k n ps bs → (p : ℕ) → Q (k + p) (get_or bs p no_block)
+by_procedure_from c Q none one k n [] [] h p = none (k + p)
+by_procedure_from c Q none one k n [] (b ∷ bs) h p = absurd h
+by_procedure_from c Q none one k n (q ∷ ps) [] h p = absurd h
+by_procedure_from c Q none one k n (q ∷ ps) (b ∷ bs) h zero = let e : k ≡ k + 0 = omega arith in subst (λ (j : ℕ). Q j b) e (one k n q.start b h.0.body)
+by_procedure_from c Q none one k n (q ∷ ps) (b ∷ bs) h (suc p) =
+    let e : k + 1 + p ≡ k + suc p = omega arith in
+    subst (λ (j : ℕ). Q j (get_or bs p no_block)) e (by_procedure_from c Q none one (k + 1) (n + size_block b) ps bs h.1 p)
+
+pub by_procedure : (c : Contents) (Q : ℕ → Block → Type 0) → ((k : ℕ) → Q k no_block) → ((k n at : ℕ) (b : Block) → KeepsBlock (below c k) 0 n at b → Q k b) → (ps : List Procedure) (bs : List Block) → LawfulProcedures c 0 0 ps bs → (p : ℕ) → Q p (get_or bs p no_block)
+by_procedure c Q none one ps bs h p =
+    let e : 0 + p ≡ p = omega arith in subst (λ (j : ℕ). Q j (get_or bs p no_block)) e (by_procedure_from c Q none one 0 0 ps bs h p)
 
 module _ (P : Program) where
   -- the blocks of a command stand at their numbers
@@ -200,7 +162,7 @@ calls_below c k n (loop_block a t b) h = tt
 calls_below c k n (grant_block g b) h = tt
 calls_below c k n (call_procedure p) h = (omega (arith, ltb-true _ _ h, length-take k (heights c)), tt)
 
-module _ (P : Program) (k : ℕ) (cells : AllByRecursion (λ (t : Table). (0 < t.length) × (length P.contents.inputs ≤ t.first) × (t.first + t.length ≤ places P.contents)) P.contents.tables) where
+module _ (P : Program) (k : ℕ) (cells : (t : ℕ) → t < length P.contents.tables → (table P t).first + (table P t).length ≤ places P.contents) where
   abbrev w : Scope
   w = below P.contents k
 
@@ -214,9 +176,11 @@ module _ (P : Program) (k : ℕ) (cells : AllByRecursion (λ (t : Table). (0 < t
   target_declared (pick_cell y t a) h x e = same_place x y (and_parts _ _ (and_parts _ _ h).0).0 e
   target_declared (put_cell t a b) h x e =
       let d = ltb-true t (length P.contents.tables) (and_parts _ _ (and_parts _ _ h).0).0 in
-      let i = All-get_or _ P.contents.tables t no_table d cells in
-      let l = ltb-true x ((table P t).first + (table P t).length) (and_parts _ _ e).1 in
-      omega (arith, i.2)
+      let i = cells t d in
+      let f = (table P t).first in
+      let n = (table P t).length in
+      let l = ltb-true x (f + n) (and_parts (leb f x) (ltb x (f + n)) e).1 in
+      omega arith
   target_declared (drive_device d a) h x e = absurd (false≢true e)
 
   assigns_declared : (n : ℕ) (c : Command) → NamesBelow P.contents k n c → Assigns P n c
@@ -234,23 +198,20 @@ module _ (ds : List Declaration) (kept : Keeps ds) where
   laws : Lawful (encode ds) P.contents P.bodies
   laws = accepted_lawful_lem ds kept
 
-  stand : AllByRecursion (λ b. (block P (number b) ≡ b) × EveryBlock (Placed P) b) P.bodies
+  stand : All (λ b. (block P (number b) ≡ b) × EveryBlock (Placed P) b) P.bodies
   stand = stand_bodies (blocks P) P.contents 0 0 P.contents.procedures P.bodies [] refl refl laws.procedures
 
-  name : (p : ℕ) → p < length P.bodies → EveryBlock (NamesBelow P.contents p) (body P p)
-  name p l = let e : 0 + p ≡ p = omega arith in subst (λ (k : ℕ). EveryBlock (NamesBelow P.contents k) (body P p)) e (names_bodies P.contents 0 0 P.contents.procedures P.bodies laws.procedures p l)
+  name : (p : ℕ) → EveryBlock (NamesBelow P.contents p) (body P p)
+  name p =
+      by_procedure P.contents (λ k. EveryBlock (NamesBelow P.contents k)) (λ k. tt) (λ k n at b. names_block (below P.contents k) b 0 n at)
+      P.contents.procedures P.bodies laws.procedures p
 
   -- the body of each procedure stands at its number
   pub body_stands : (p : ℕ) → p < length P.bodies → block P (number (body P p)) ≡ body P p
   body_stands p l = (All-get_or (λ b. (block P (number b) ≡ b) × EveryBlock (Placed P) b) P.bodies p no_block l stand).0
 
-  -- block n has the number n
-  pub block_number : (n : ℕ) → n < length (blocks P) → number (block P n) ≡ n
-  block_number n l =
-      let r = numbered_at 0 (blocks P) n l (numbered_bodies P.contents 0 0 P.contents.procedures P.bodies laws.procedures) in omega arith
-
   -- each block inside a body, or inside any other block, stands at its number
-  placed_bodies : AllByRecursion (EveryBlock (Placed P)) P.bodies
+  placed_bodies : All (EveryBlock (Placed P)) P.bodies
   placed_bodies = All-weaker (λ b. (block P (number b) ≡ b) × EveryBlock (Placed P) b) (EveryBlock (Placed P)) (λ b h. h.1) P.bodies stand
 
   pub placed_body : (p : ℕ) → EveryBlock (Placed P) (body P p)
@@ -260,16 +221,16 @@ module _ (ds : List Declaration) (kept : Keeps ds) where
   placed_block n = every_block (Placed P) P.bodies placed_bodies n
 
   -- a body calls lower procedures, and a block calls procedures that are there
-  pub calls_body : (p : ℕ) → p < length P.bodies → EveryBlock (Calls p) (body P p)
-  calls_body p l = weaker (NamesBelow P.contents p) (Calls p) (calls_below P.contents p) (body P p) (name p l)
+  pub calls_body : (p : ℕ) → EveryBlock (Calls p) (body P p)
+  calls_body p = weaker (NamesBelow P.contents p) (Calls p) (calls_below P.contents p) (body P p) (name p)
 
   pub calls_block : (n : ℕ) → EveryBlock (Calls (length P.bodies)) (block P n)
   calls_block n =
       every_block (Calls (length P.bodies)) P.bodies (All-from_get_or (EveryBlock (Calls (length P.bodies))) P.bodies no_block (λ p l.
-      weaker (Calls p) (Calls (length P.bodies)) (λ m c h. All-weaker (λ q. q < p) (λ q. q < length P.bodies) (λ q i. omega arith) (calls c) h) (body P p) (calls_body p l))) n
+      weaker (Calls p) (Calls (length P.bodies)) (λ m c h. ByRecursion.All-weaker (λ q. q < p) (λ q. q < length P.bodies) (λ q i. omega arith) (calls c) h) (body P p) (calls_body p))) n
 
   -- a block assigns places that are declared
   pub assigns_block : (n : ℕ) → EveryBlock (Assigns P) (block P n)
   assigns_block n =
       every_block (Assigns P) P.bodies (All-from_get_or (EveryBlock (Assigns P)) P.bodies no_block (λ p l.
-      weaker (NamesBelow P.contents p) (Assigns P) (assigns_declared P p laws.cells) (body P p) (name p l))) n
+      weaker (NamesBelow P.contents p) (Assigns P) (assigns_declared P p (λ t h. (ByRecursion.All-get_or _ P.contents.tables t no_table h laws.cells).2)) (body P p) (name p))) n

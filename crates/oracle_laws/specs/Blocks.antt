@@ -1,5 +1,6 @@
 -- The blocks of a package, in the order in which they are entered: a block's number is its place there.
 use Rattle.std.specs.Prelude.{ℕ, List, [], ◌∷◌, ◌++◌, slice_index_or}
+use Rattle.std.specs.List.{flat_map}
 use Rattle.layout.specs.Tree.{Command, plain_command, choose_block, loop_block, grant_block, call_procedure, Commands, no_commands, then_command, Block, numbered_block}
 use Rattle.layout.specs.Program.{Program, no_block}
 
@@ -27,8 +28,7 @@ abbrev mutual
 
 -- the blocks of bodies, one body after the other
 abbrev pub entered_all : List Block → List Block
-entered_all [] = []
-entered_all (b ∷ bs) = entered b ++ entered_all bs
+entered_all bs = flat_map entered bs
 
 abbrev pub blocks : Program → List Block
 blocks P = entered_all P.bodies

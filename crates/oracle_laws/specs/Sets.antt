@@ -1,6 +1,6 @@
 -- What a write oracle means, a set of places for each block, and the laws of such sets.
 use Rattle.std.specs.Prelude.{◌≡◌, ℕ, ◌+◌, ◌<◌, Bool, true, false, ◌&&◌, List, [], ◌∷◌, length, ◌==◌, nat_le, nat_lt}
-use Rattle.std.specs.List.{AllByRecursion}
+use Rattle.std.specs.List.{All}
 use Rattle.layout.specs.declared.Table.{Table}
 use Rattle.layout.specs.Tree.{Plain, set_place, copy_place, combine_places, pick_cell, put_cell, drive_device, Command, plain_command, choose_block, loop_block, grant_block, call_procedure}
 use Rattle.layout.specs.Declarations.{Declaration, places}
@@ -48,7 +48,7 @@ Within names m n = (x : ℕ) → names m x ≡ true → names n x ≡ true
 -- a block's set holds the targets of its commands, and the sets of the blocks inside it and of every called body
 pub record Lawful (P : Program) (names : Sets) : Type 0 where
   pub targets : (n : ℕ) → EachIn (λ c. (x : ℕ) → assigns P c x ≡ true → names n x ≡ true) (commands (block P n))
-  pub nests : (n : ℕ) → EachIn (λ c. AllByRecursion (λ m. Within names m n) (runs P c)) (commands (block P n))
+  pub nests : (n : ℕ) → EachIn (λ c. All (λ m. Within names m n) (runs P c)) (commands (block P n))
 
 -- nothing is named for a block that the package lacks, and no place that it lacks
 abbrev pub Declared : Program → Sets → Type 0

@@ -5,22 +5,18 @@ ghost use Rattle.oracle_laws.specs.Sets.{BroadLawful};
 ghost use Rattle.oracle_laws.specs.Smallest.{SmallestLawful, SmallestLeast};
 
 // Every place for every block: these sets keep the laws.
-pub fn broad_lawful() -> u8
+#[tactic(auto, using(crate::proofs::Broad::broad_lawful_lem))]
+pub fn broad_lawful()
     ensures { BroadLawful }
-{
-    0
-}
+{}
 
 // The sets of what may be written keep the laws.
-pub fn smallest_lawful() -> u8
+#[tactic(auto, using(crate::proofs::Smallest::smallest_lawful_lem))]
+pub fn smallest_lawful()
     ensures { SmallestLawful }
-{
-    0
-}
+{}
 
 // Whatever keeps the laws names all that the smallest sets name.
-pub fn smallest_least() -> u8
+pub fn smallest_least()
     ensures { SmallestLeast }
-{
-    0
-}
+{}

@@ -7,6 +7,7 @@ mod tests {
     use oracles::broad::Broad;
     use oracles::walking::Walking;
     use package::load;
+    use reach::places_of;
     use std::process::Abort;
     use std::test::Fail;
 
@@ -67,24 +68,31 @@ mod tests {
     #[test]
     fn the_walking_oracle_names_what_may_be_written(rt: HostRuntime) -> Result<(), Fail> {
         let heap = rt.alloc();
-        let Ok(held) = load(heap, HALL) else {
-            return Err(Fail::new("refused"));
-        };
-        let walking: Walking = <Walking as WriteOracle>::prepare(heap, &held)?;
+        let held = load(heap, HALL)?;
+        let walking = Walking::prepare(heap, &held)?;
         for (block, places) in WRITTEN.iter().enumerate() {
-            check_named(&rt, &walking, block, *places);
+            check_named(&rt, &walking, block, places);
         }
         check_lacking(&rt, &walking);
         Ok(())
     }
 
     #[test]
+    fn the_places_of_a_block_are_listed_in_order(rt: HostRuntime) -> Result<(), Fail> {
+        let heap = rt.alloc();
+        let held = load(heap, HALL)?;
+        let walking = Walking::prepare(heap, &held)?;
+        for (block, places) in WRITTEN.iter().enumerate() {
+            assert_eq!(rt; places_of(heap, &walking, block)?.as_slice(), *places);
+        }
+        Ok(())
+    }
+
+    #[test]
     fn the_broad_oracle_names_every_place(rt: HostRuntime) -> Result<(), Fail> {
         let heap = rt.alloc();
-        let Ok(held) = load(heap, HALL) else {
-            return Err(Fail::new("refused"));
-        };
-        let broad: Broad = <Broad as WriteOracle>::prepare(heap, &held)?;
+        let held = load(heap, HALL)?;
+        let broad = Broad::prepare(heap, &held)?;
         for block in 0..10usize {
             check_named(&rt, &broad, block, &[0, 1, 2, 3, 4, 5, 6]);
         }
@@ -96,11 +104,9 @@ mod tests {
     #[test]
     fn nothing_is_named_where_nothing_is_declared(rt: HostRuntime) -> Result<(), Fail> {
         let heap = rt.alloc();
-        let Ok(held) = load(heap, BARE) else {
-            return Err(Fail::new("refused"));
-        };
-        let walking: Walking = <Walking as WriteOracle>::prepare(heap, &held)?;
-        let broad: Broad = <Broad as WriteOracle>::prepare(heap, &held)?;
+        let held = load(heap, BARE)?;
+        let walking = Walking::prepare(heap, &held)?;
+        let broad = Broad::prepare(heap, &held)?;
         check_named(&rt, &walking, 0, &[]);
         check_lacking(&rt, &walking);
         check_named(&rt, &broad, 0, &[]);
@@ -112,10 +118,8 @@ mod tests {
     #[test]
     fn the_walking_oracle_outlives_the_package(rt: HostRuntime) -> Result<(), Fail> {
         let heap = rt.alloc();
-        let Ok(held) = load(heap, HALL) else {
-            return Err(Fail::new("refused"));
-        };
-        let walking: Walking = <Walking as WriteOracle>::prepare(heap, &held)?;
+        let held = load(heap, HALL)?;
+        let walking = Walking::prepare(heap, &held)?;
         drop(held);
         check_named(&rt, &walking, 4, &[1, 3, 4, 5]);
         Ok(())

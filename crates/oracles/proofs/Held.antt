@@ -1,7 +1,9 @@
 -- What a package holds, and what its declarations say.
-use Rattle.std.proofs.Common.{◌≡◌, ℕ, ◌+◌, ◌<◌, ◌≤◌, Bool, false, ◌&&◌, ltb, leb, List, [], length, get_or, take, drop, vec_items, sym, refl, ap, ◌∙◌, ⊎_elim, arith, length-drop, length-take}
+use Rattle.std.proofs.Common.{◌≡◌, ℕ, ◌+◌, ◌<◌, ◌≤◌, Bool, false, ◌&&◌, ltb, Option, Some, None, Bor, List, [], length, get_or, take, drop, vec_items, sym, ap, ◌∙◌, ⊎_elim, arith, length-drop, length-take}
+use Rattle.std.specs.Slice.{IsItemAt}
+use Rattle.std.specs.Option.{MatchOption}
 use Rattle.std.proofs.lemmas.List.{get_or_past, get_or_default}
-use Rattle.std.proofs.lemmas.Bool.{cases_lt, and_right, le-ltb, le-leb, lt-leb}
+use Rattle.std.proofs.lemmas.Bool.{cases_lt, and_right, le-ltb}
 use Rattle.layout.specs.declared.Procedure.{Procedure}
 use Rattle.layout.specs.declared.Span.{Span}
 use Rattle.layout.specs.declared.Table.{Table}
@@ -16,8 +18,14 @@ use Rattle.oracle_laws.specs.Blocks.{blocks, block}
 use Rattle.oracle_laws.specs.Sets.{cell_of, broad}
 use Rattle.oracle_laws.specs.Smallest.{writes_block, called_below, smallest}
 use Rattle.oracle_laws.proofs.Lying.{as_many_blocks, block_lies, as_many_bodies, body_lies}
-use Rattle.oracles.specs.Answers.{TellsAll}
+use Rattle.oracles.specs.declared.walking.Question.{Question}
+use Rattle.oracles.specs.Answers.{asked, TellsAll}
 use Rattle.oracles.proofs.Walks.{block_told}
+
+-- what follows from an item that is there, and from none
+pub by_item : {X : Type 0} {R P : Type 0} {Q : Bor X → Type 0} (xs : List X) (i : ℕ) (r : Option (Bor X)) → IsItemAt xs i r → MatchOption r P Q → (length xs ≤ i → P → R) → ((x : Bor X) → i < length xs → x.now ≡ get_or xs i x.now → Q x → R) → R
+by_item xs i None h m none some = none h.3 m
+by_item xs i (Some x) h m none some = some x h.3.0 (h.3.1 x.now) m
 
 no_procedure : Procedure
 no_procedure = record { party = 0; start = 0; length = 0; height = 0; steps = 0 }
@@ -34,11 +42,10 @@ module _ (h : Package) where
     same_procedures : ps ≡ P.contents.procedures
     same_procedures = is ∙ ap (λ (c : Contents). c.procedures) (holds h)
 
-    pub body_found : (bs : List ℕ) (found : Procedure) → bs ≡ bytes → p < length ps → found ≡ get_or ps p found → take found.length (drop found.start bs) ≡ encode_block (body P p)
-    body_found bs found e l f =
+    pub body_found : (found : Procedure) → p < length ps → found ≡ get_or ps p found → take found.length (drop found.start bytes) ≡ encode_block (body P p)
+    body_found found l f =
         let g : found ≡ get_or P.contents.procedures p found = f ∙ ap (λ (qs : List Procedure). get_or qs p found) same_procedures in
-        ap (λ (xs : List ℕ). take found.length (drop found.start xs)) e
-        ∙ ap (λ (q : Procedure). take q.length (drop q.start bytes)) g
+        ap (λ (q : Procedure). take q.length (drop q.start bytes)) g
         ∙ body_lies bytes (tree_of h) (lawful h) p found (omega (arith, ap length same_procedures))
 
     pub body_none : length ps ≤ p → [] ≡ encode_block (body P p)
@@ -77,17 +84,11 @@ module _ (h : Package) where
     same_spans : ss ≡ P.contents.spans
     same_spans = is ∙ ap (λ (c : Contents). c.spans) (holds h)
 
-    pub block_found : (bs : List ℕ) (found : Span) → bs ≡ bytes → n < length ss → found ≡ get_or ss n found → take found.length (drop found.start bs) ≡ encode_block (block P n)
-    block_found bs found e l f =
+    pub block_found : (found : Span) → n < length ss → found ≡ get_or ss n found → take found.length (drop found.start bytes) ≡ encode_block (block P n)
+    block_found found l f =
         let g : found ≡ get_or P.contents.spans n found = f ∙ ap (λ (ts : List Span). get_or ts n found) same_spans in
-        ap (λ (xs : List ℕ). take found.length (drop found.start xs)) e
-        ∙ ap (λ (s : Span). take s.length (drop s.start bytes)) g
+        ap (λ (s : Span). take s.length (drop s.start bytes)) g
         ∙ block_lies bytes (tree_of h) (lawful h) n found (omega (arith, ap length same_spans))
-
-    pub block_named : (ys : List ℕ) (x k : ℕ) (r : Bool) → k ≡ length (vec_items h.contents.procedures) → ys ≡ encode_block (block P n) → TellsAll P k ys x r → r ≡ smallest P n x
-    block_named ys x k r e f t =
-        let top : k ≡ length P.bodies = e ∙ ap length (ap (λ (c : Contents). c.procedures) (holds h)) ∙ as_many_bodies bytes (tree_of h) (lawful h) in
-        block_told P k x (block P n) ys r f t ∙ ap (λ (j : ℕ). writes_block P (called_below P j) (block P n) x) top
 
     pub block_none : (x : ℕ) → length ss ≤ n → false ≡ smallest P n x
     block_none x l =
@@ -100,11 +101,9 @@ module _ (h : Package) where
       let i : p ≡ places P.contents = f ∙ ap places (holds h) in
       ap (λ (m : ℕ). ltb n m && ltb x p) g ∙ ap (λ (m : ℕ). ltb n (length (blocks P)) && ltb x m) i
 
-pub cell_found : (found : Table) (x y first size : ℕ) → y ≡ x → first ≡ found.first → size ≡ found.length → first ≤ y → ltb y (first + size) ≡ cell_of found x
-cell_found found x y first size e f g l =
-    sym (ap (λ (b : Bool). b && ltb x (found.first + found.length)) (le-leb found.first x (omega arith)) ∙ (rw (e, f, g) refl))
-
-pub cell_missed : (found : Table) (x y first : ℕ) → y ≡ x → first ≡ found.first → y < first → leb first y ≡ cell_of found x
-cell_missed found x y first e f l =
-    let b : leb found.first x ≡ false = lt-leb found.first x (omega arith) in
-    rw (e, f) (b ∙ sym (ap (λ (b : Bool). b && ltb x (found.first + found.length)) b))
+-- a question about the block
+pub block_named : (q : Question) (n : ℕ) (ys : List ℕ) (r : Bool) → q.limit ≡ length (vec_items q.held.now.contents.procedures) → ys ≡ encode_block (block (asked q) n) → TellsAll q ys r → r ≡ smallest (asked q) n q.place
+block_named q n ys r e f t =
+    let h : Package = q.held.now in
+    let top : q.limit ≡ length (asked q).bodies = e ∙ ap length (ap (λ (c : Contents). c.procedures) (holds h)) ∙ as_many_bodies (bytes h) (tree_of h) (lawful h) in
+    block_told q (block (asked q) n) ys r (sym f) t ∙ ap (λ (j : ℕ). writes_block (asked q) (called_below (asked q) j) (block (asked q) n) q.place) top

@@ -10,28 +10,31 @@ use Rattle.oracle_laws.specs.Sets.{Sets}
 use Rattle.oracle_laws.specs.Smallest.{writes, writes_commands, writes_block, called_below, smallest}
 use Rattle.oracles.specs.declared.broad.Broad.{Broad}
 use Rattle.oracles.specs.declared.walking.Walking.{Walking}
-
--- the package that a walking oracle keeps
-abbrev pub kept : Walking → Program
-kept o = program (tree_of o.held)
+use Rattle.oracles.specs.declared.walking.Question.{Question}
 
 abbrev pub walking_answers : Walking → Sets
-walking_answers o = smallest (kept o)
+walking_answers o = smallest (program (tree_of o.held))
 
 abbrev pub broad_answers : Broad → Sets
 broad_answers o n x = nat_lt n o.blocks && nat_lt x o.places
 
--- r tells whether a command, the commands in these bytes, or two blocks may write place x,
--- where they may call procedures below the limit
-abbrev pub TellsOne : Program → ℕ → Flat → ℕ → Bool → Type 0
-TellsOne P limit f x r = (c : Command) → flat c ≡ f → r ≡ writes P (called_below P limit) c x
+-- the package that a question is about, and what calls of the procedures below its limit may write
+abbrev pub asked : Question → Program
+asked q = program (tree_of q.held.now)
 
-abbrev pub TellsAll : Program → ℕ → List ℕ → ℕ → Bool → Type 0
-TellsAll P limit bs x r = (cs : Commands) → encode_commands cs ≡ bs → r ≡ writes_commands P (called_below P limit) cs x
+abbrev pub callable : Question → Sets
+callable q = called_below (asked q) q.limit
 
-abbrev pub TellsTwo : Program → ℕ → List ℕ → List ℕ → ℕ → Bool → Type 0
-TellsTwo P limit ys zs x r =
-    (b e : Block) → encode_block b ≡ ys → encode_block e ≡ zs → r ≡ (writes_block P (called_below P limit) b x || writes_block P (called_below P limit) e x)
+-- r tells whether a command, the commands in these bytes, or two blocks may write the place of question q
+abbrev pub TellsOne : Question → Flat → Bool → Type 0
+TellsOne q f r = (c : Command) → flat c ≡ f → r ≡ writes (asked q) (callable q) c q.place
+
+abbrev pub TellsAll : Question → List ℕ → Bool → Type 0
+TellsAll q bs r = (cs : Commands) → encode_commands cs ≡ bs → r ≡ writes_commands (asked q) (callable q) cs q.place
+
+abbrev pub TellsTwo : Question → List ℕ → List ℕ → Bool → Type 0
+TellsTwo q ys zs r =
+    (b e : Block) → encode_block b ≡ ys → encode_block e ≡ zs → r ≡ (writes_block (asked q) (callable q) b q.place || writes_block (asked q) (callable q) e q.place)
 
 -- what the smallest sets name, these sets name
 abbrev pub NamesSmallest : (Program → Sets) → Type 0

@@ -33,8 +33,6 @@ pub trait WriteOracle: Sized {
 }
 
 // What the walking oracle names, every oracle names.
-pub fn walking_smallest<O: WriteOracle>() -> u8
+pub fn walking_smallest<O: WriteOracle>()
     ensures { NamesSmallest O.WriteOracle.sets }
-{
-    0
-}
+{}

@@ -5,11 +5,12 @@ ghost use Rattle.layout.specs.Program.{body as body_of, table as table_of};
 ghost use Rattle.commands.specs.Reads.{flat_of, plain_of};
 ghost use Rattle.oracle_laws.specs.Sets.{cell_of, target as target_of};
 ghost use Rattle.oracle_laws.specs.Smallest.{smallest};
-ghost use Rattle.oracles.specs.Answers.{kept, walking_answers, TellsOne, TellsTwo, TellsAll};
+ghost use Rattle.oracles.specs.Answers.{walking_answers, asked, TellsOne, TellsTwo, TellsAll};
 ghost use Rattle.oracle_laws.proofs.Smallest.{smallest_lawful_lem};
 
 use super::WriteOracle;
 use commands::{Command, Plain, decode};
+use layout::Table;
 use package::held::Package;
 use package::parts::part;
 use std::alloc::{AllocError, Global};
@@ -20,69 +21,70 @@ pub struct Walking {
     held: Package,
 }
 
-impl Walking {
+// A question about commands of a package, which may call the procedures below the limit: whether they may write the
+// place.
+#[derive(Clone, Copy)]
+struct Question<'a> {
+    held: &'a Package,
+    limit: usize,
+    place: u8,
+}
+
+// Whether the place is a cell of the table.
+fn has_cell(table: &Table, place: u8) -> bool
+    ensures { result ≡ cell_of table.now place }
+{
+    let first = u16::from(table.first);
+    (first..first + u16::from(table.length)).contains(&u16::from(place))
+}
+
+impl<'a> Question<'a> {
     // The body of a procedure; none where there is no such procedure.
-    fn body(&self, procedure: usize) -> &[u8]
-        ensures { result.now ≡ encode_block (body_of (kept self.now) procedure) }
+    fn body(&self, procedure: usize) -> &'a [u8]
+        ensures { result.now ≡ encode_block (body_of (asked self.now) procedure) }
     {
-        match self.held.contents().procedures.get(procedure) {
-            Some(found) => part(self.held.bytes(), found.start, found.length),
-            None => &[],
-        }
+        let held = self.held;
+        held.contents()
+            .procedures
+            .get(procedure)
+            .map_or(&[], |found| part(held.bytes(), found.start, found.length))
     }
 
     // Whether the place is a cell of the table.
-    fn has_cell(&self, table: u8, place: u8) -> bool
-        ensures { result ≡ cell_of (table_of (kept self.now) table) place }
+    fn is_cell_of(&self, table: u8) -> bool
+        ensures { result ≡ cell_of (table_of (asked self.now) table) self.now.place }
     {
-        match self.held.contents().tables.get(usize::from(table)) {
-            Some(found) => {
-                let place = u16::from(place);
-                let first = u16::from(found.first);
-                first <= place && place < first + u16::from(found.length)
-            }
-            None => false,
-        }
+        let place = self.place;
+        self.held
+            .contents()
+            .tables
+            .get(usize::from(table))
+            .is_some_and(|found| has_cell(found, place))
     }
 
-    // Whether a plain command may write the place: a PUT may write any cell of its table.
-    fn targets(&self, plain: Plain, place: u8) -> bool
-        ensures { result ≡ target_of (kept self.now) (plain_of plain) place }
+    // Whether the place is a target of a plain command: a PUT may write any cell of its table.
+    fn is_target_of(&self, plain: Plain) -> bool
+        ensures { result ≡ target_of (asked self.now) (plain_of plain) self.now.place }
     {
         match plain {
-            Plain::Set { target, value: _ } => place == target,
-            Plain::Copy { target, source: _ } => place == target,
-            Plain::Combine {
-                operation: _,
-                target,
-                left: _,
-                right: _,
-            } => place == target,
-            Plain::Pick {
-                target,
-                table: _,
-                index: _,
-            } => place == target,
-            Plain::Put {
-                table,
-                index: _,
-                source: _,
-            } => self.has_cell(table, place),
-            Plain::Drive {
-                device: _,
-                source: _,
-            } => false,
+            Plain::Set { target, .. }
+            | Plain::Copy { target, .. }
+            | Plain::Combine { target, .. }
+            | Plain::Pick { target, .. } => self.place == target,
+            Plain::Put { table, .. } => self.is_cell_of(table),
+            Plain::Drive { .. } => false,
         }
     }
 
-    // Whether the commands of these bytes, which may call the procedures below the limit, may write the place.
+    // Whether one of the commands of these bytes may write it. The loop moves along the bytes: an iterator of commands
+    // would serve it alone, since the two other readers of commands need offsets and the refusal too.
     #[cycle(may_write)]
-    fn any_writes(&self, limit: usize, bytes: &[u8], place: u8) -> bool
-        ensures { TellsAll (kept self.now) limit bytes.now place result }
+    fn any_writes(&self, bytes: &[u8]) -> bool
+        ensures { TellsAll self.now bytes.now result }
     {
         let mut rest = bytes;
         while let Ok((command, after)) = decode(rest) {
-            if self.writes(limit, command, place) {
+            if self.writes(command) {
                 return true;
             }
             rest = after;
@@ -90,42 +92,29 @@ impl Walking {
         false
     }
 
-    // Whether one of the two blocks of a choice may write the place.
+    // Whether one of the two blocks of a choice may write it.
     #[cycle(may_write)]
-    fn either_writes(&self, limit: usize, first: &[u8], second: &[u8], place: u8) -> bool
-        ensures { TellsTwo (kept self.now) limit first.now second.now place result }
+    fn either_writes(&self, first: &[u8], second: &[u8]) -> bool
+        ensures { TellsTwo self.now first.now second.now result }
     {
-        self.any_writes(limit, first, place) || self.any_writes(limit, second, place)
+        self.any_writes(first) || self.any_writes(second)
     }
 
-    // Whether a command may write the place, with its blocks and the body that it calls.
+    // Whether a command may write it, with its blocks and the body that it calls.
     #[cycle(may_write)]
-    fn writes<'a>(&self, limit: usize, command: Command<'a>, place: u8) -> bool
-        ensures { TellsOne (kept self.now) limit (flat_of command.entry) place result }
+    fn writes(&self, command: Command<'_>) -> bool
+        ensures { TellsOne self.now (flat_of command.entry) result }
     {
         match command {
-            Command::Plain(plain) => self.targets(plain, place),
-            Command::When {
-                place: _,
-                first,
-                second,
-            } => self.either_writes(limit, first, second, place),
-            Command::Loop {
-                place: _,
-                times: _,
-                body,
-            } => self.any_writes(limit, body, place),
-            Command::Grant { frame: _, body } => self.any_writes(limit, body, place),
+            Command::Plain(plain) => self.is_target_of(plain),
+            Command::When { first, second, .. } => self.either_writes(first, second),
+            Command::Loop { body, .. } => self.any_writes(body),
+            Command::Grant { body, .. } => self.any_writes(body),
             Command::Call { procedure } => {
-                let called = usize::from(procedure);
-                called < limit && self.any_writes(called, self.body(called), place)
+                let limit = usize::from(procedure);
+                limit < self.limit && Question { limit, ..*self }.any_writes(self.body(limit))
             }
-            Command::Try {
-                frame: _,
-                place: _,
-                first,
-                second,
-            } => self.either_writes(limit, first, second, place),
+            Command::Try { first, second, .. } => self.either_writes(first, second),
         }
     }
 }
@@ -143,13 +132,11 @@ impl WriteOracle for Walking {
     }
 
     fn names(&self, block: usize, place: u8) -> bool {
-        let contents = self.held.contents();
-        match contents.blocks.get(block) {
-            Some(span) => {
-                let commands = part(self.held.bytes(), span.start, span.length);
-                self.any_writes(contents.procedures.len(), commands, place)
-            }
-            None => false,
-        }
+        let held = &self.held;
+        let limit = held.contents().procedures.len();
+        held.contents().blocks.get(block).is_some_and(|span| {
+            let commands = part(held.bytes(), span.start, span.length);
+            Question { held, limit, place }.any_writes(commands)
+        })
     }
 }

@@ -1,8 +1,8 @@
 -- Two controllers that right q cannot tell apart, call by call.
 use Rattle.std.proofs.Common.{◌≡◌, ℕ, ◌<◌, Bool, true, false, cond, not, ◌&&◌, eqb, ltb, List, [], ◌∷◌, map, length, get_or, is_ok, Some, None, Ok, Option, Result, sym, refl, ap, ◌∙◌, ap₂, inl, inr, ⊎_elim, arith}
-use lib.ListN.{length-map}
-use Rattle.std.proofs.lemmas.List.{get_or_append_left, get_or-map}
-use Rattle.std.proofs.lemmas.Bool.{ltb-true, eqb-true, and_parts, not-true, not-false, cases_Bool, cond-false, false≢true}
+use borrow.Author.Clash.{clash}
+use Rattle.std.proofs.lemmas.List.{length-map, get_or_append_left, get_or-map}
+use Rattle.std.proofs.lemmas.Bool.{cond_both, ltb-true, eqb-true, and_parts, not-true, not-false, cases_Bool, cond-false, false≢true}
 use Rattle.frames.specs.Kinds.{Lawful}
 use Rattle.layout.specs.Program.{Program, program, body}
 use Rattle.oracle_laws.proofs.Every.{EveryBlock}
@@ -16,7 +16,7 @@ use Rattle.rules.specs.Assembly.{Assembly}
 use Rattle.rules.specs.Running.{place}
 use Rattle.rules.specs.Calls.{Held, place_in, party_frame, new_input, new_cell, new, is_party, is_place, is_right, no_input, owns, demand, post_answer, read_answer, started, kept, cycle, after}
 use Rattle.rules.specs.Agreement.{Seen, struck, remaining, needing, devices_seen, read_seen, seen_from, seen, Agreement}
-use Rattle.rules.proofs.Tests.{clash, by_cond, by_cond₂}
+use Rattle.rules.proofs.Tests.{by_cond₂}
 use Rattle.rules.proofs.Each.{Each, each_set, each_set_left, each_self, each_at}
 use Rattle.rules.proofs.Legal.{Fits, fits_body}
 use Rattle.rules.proofs.InStep.{lacks, hidden, Alike, AlikeAt, ShowsAt, InStep, shows_refl, locked_entries}
@@ -79,21 +79,21 @@ module _ (A : Assembly) (L : Lawful A.kind) (P : Program) (q : ℕ) where
   -- a post of a party without q, on one side
   pub agree_struck : (c : Call) → struck A P q c ≡ true → (h g : Held) → Agree h g → Agree (after A P c h) g
   agree_struck (call.Post o x v) k h g a =
-      by_cond (λ (z : Held). Agree z g) (is_ok (post_answer P o x))
+      cond_both (is_ok (post_answer P o x)) _ _ (λ (z : Held). Agree z g)
       (λ e.
       let i = accepted_post P o x e in
       let l = without i.0 in
       record {
-        places = each_set_left (AlikeAt A L P q) h.places g.places x _ a.places (λ y z. elim [ inl s ↦ clash (owner_hides o x i.2 ∙ ap not l) s.0 | inr s ↦ inr (l, s.1) ]);
+        places = each_set_left (AlikeAt A L P q) h.places g.places x _ a.places (λ y z. elim [ inl s ↦ clash _ (owner_hides o x i.2 ∙ ap not l) s.0 | inr s ↦ inr (l, s.1) ]);
         devices = a.devices;
       })
       (λ e. a)
     where
       without : is_party P o ≡ true → lacks A L P q (party_frame P o)
       without e = rw e at (not-true _ k)
-  agree_struck call.Cycle k h g a = clash k refl
-  agree_struck (call.Read x p) k h g a = clash k refl
-  agree_struck (call.Show d) k h g a = clash k refl
+  agree_struck call.Cycle k h g a = clash _ k refl
+  agree_struck (call.Read x p) k h g a = clash _ k refl
+  agree_struck (call.Show d) k h g a = clash _ k refl
 
   module _ (small : q < 64) (fit : (p : ℕ) → EveryBlock (Fits P A.names) (body P p)) where
     pub agree_cycle : (h g : Held) → Agree h g → Agree (kept (cycle A P h)) (kept (cycle A P g))
@@ -170,8 +170,8 @@ module _ (A : Assembly) (L : Lawful A.kind) (P : Program) (q : ℕ) where
     pub seen_new : (cs : List Call) → seen A P q cs ≡ record { devices = devices_seen A P q (new P); read = None } ∷ seen_from A P q (remaining A P q cs) (new P)
     seen_new cs = ap (λ (ss : List Seen). record { devices = devices_seen A P q (new P); read = None } ∷ ss) (seen_remaining cs (new P) (new P) agree_new)
 
-pub agreement : Agreement
-agreement ds keeps A law q small cs es e =
+pub agreement_lem : Agreement
+agreement_lem ds keeps A law q small cs es e =
     let fit = fits_body ds keeps A.names law.oracle in
     seen_new A law.frames (program ds) q small fit cs
     ∙ ap (λ (rs : List Call). record { devices = devices_seen A (program ds) q (new (program ds)); read = None } ∷ seen_from A (program ds) q rs (new (program ds))) e

@@ -1,6 +1,6 @@
 -- Both frame kinds and both write oracles keep their laws.
 use Rattle.frames.specs.LevelLaws.{levels_lawful, max_widens}
-use Rattle.frames.specs.RightGaps.{rights_lawful, or_widens}
+use Rattle.frames.specs.RightLaws.{rights_lawful, or_widens}
 use Rattle.oracle_laws.proofs.Broad.{broad_lawful_lem}
 use Rattle.oracle_laws.proofs.Smallest.{smallest_lawful_lem}
 use Rattle.rules.specs.AtHand.{AtHandLawful}

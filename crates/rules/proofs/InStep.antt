@@ -1,9 +1,11 @@
 -- Two runs of the same commands that right q cannot tell apart.
 use Rattle.std.proofs.Common.{◌≡◌, ℕ, zero, suc, ◌<◌, ◌≤◌, Bool, true, false, cond, not, ◌&&◌, eqb, ltb, ◌⊎◌, List, [], ◌∷◌, length, get_or, Option, sym, refl, ap, ◌∙◌, subst, inl, inr, ⊎_elim, arith}
+use borrow.Author.Clash.{clash}
 use Rattle.std.specs.declared.option.Option.TheVariants as option
-use Rattle.std.proofs.lemmas.Bool.{le-ltb, eq-eqb, eqb-true, cases_Bool, or_left, or_right}
+use Rattle.std.specs.Option.{option_or}
+use Rattle.std.proofs.lemmas.Bool.{cond_both, le-ltb, eqb-true, cases_Bool, or_left, or_right}
 use Rattle.frames.specs.Kinds.{Lawful, gap}
-use Rattle.frames.specs.Gaps.{gap_covers}
+use Rattle.frames.proofs.Gaps.{gap_covers}
 use Rattle.layout.specs.declared.Table.{Table}
 use Rattle.layout.specs.Tree.{Operation, Plain, set_place, copy_place, combine_places, pick_cell, put_cell, drive_device, asked, Command, plain_command, choose_block, loop_block, grant_block, call_procedure, Commands, no_commands, then_command, Block, numbered_block}
 use Rattle.layout.specs.Program.{Program, body, table}
@@ -15,15 +17,15 @@ use Rattle.rules.specs.declared.Cause.{Cause}
 use Rattle.rules.specs.declared.Cause.TheVariants as cause
 use Rattle.rules.specs.Assembly.{Assembly}
 use Rattle.rules.specs.declared.Context.{Context}
-use Rattle.rules.specs.Running.{State, place, device, at, tick, write, given, first_of, told, basis, under, granted, lowered, lower_all, lower, set_to, copied, combined, within, cell_at, picked, pick, put_in, put, because, obstacle, drive_by, drive, takes, decide, turns, need_of, named, either, run_plain, run, run_commands, run_block, entering, calls, fresh, run_entries}
+use Rattle.rules.specs.Running.{State, place, device, at, tick, write, given, told, basis, under, granted, lowered, lower_all, lower, set_to, copied, combined, within, cell_at, picked, pick, put_in, put, because, obstacle, drive_by, drive, takes, decide, turns, need_of, named, either, run_plain, run, run_commands, run_block, entering, calls, fresh, run_entries}
 use Rattle.rules.specs.Calls.{party_frame, no_input}
-use Rattle.rules.proofs.Tests.{clash, by_cond, by_cond₂, not_within}
+use Rattle.rules.proofs.Tests.{by_cond₂, not_within}
 use Rattle.rules.proofs.Each.{Each, each_refl, each_weaker, each_trans, each_at, each_set, each_set_right, each_join}
-use Rattle.rules.proofs.Legal.{Fits, in_table}
+use Rattle.rules.proofs.Legal.{Fits, in_table, target_itself}
 
 -- ---- small facts
 
-first_none : {X : Type 0} (x y : Option X) → first_of x y ≡ option.None → y ≡ option.None
+first_none : {X : Type 0} (x y : Option X) → option_or x y ≡ option.None → y ≡ option.None
 first_none (option.Some x) y e = let z : ◌≡◌ {A = ℕ} 0 1 = cc in absurd (omega arith)
 first_none option.None y e = e
 
@@ -59,7 +61,7 @@ module _ (A : Assembly) (L : Lawful A.kind) (P : Program) (q : ℕ) where
   -- a drive by what lacks q is refused where the need holds q
   never_driven : (r : Context) (need : ℕ) (p : Place) → lacks (basis A r p) → holds need → obstacle A r need p ≡ option.None → ⊥
   never_driven r need p l h e =
-      clash (gap_covers A.kind L (basis A r p) need (no_cause A cause.Information (gap A.kind (basis A r p) need) (first_none _ _ e)) q h) l
+      clash _ (gap_covers A.kind L (basis A r p) need (no_cause A cause.Information (gap A.kind (basis A r p) need) (first_none _ _ e)) q h) l
 
   -- ---- relations
 
@@ -148,7 +150,7 @@ module _ (A : Assembly) (L : Lawful A.kind) (P : Program) (q : ℕ) where
 
   confined_write : {N : Names} {s t : State} (x : ℕ) (p : Place) → N x ≡ true → Confined N s t → Confined N s (write t x p)
   confined_write {N} {s} {t} x p n h = record {
-    places = each_set_right (KeptAt N) s.places t.places x p h.places (λ a b k e. clash n e);
+    places = each_set_right (KeptAt N) s.places t.places x p h.places (λ a b k e. clash _ n e);
     devices = h.devices;
   }
 
@@ -173,7 +175,7 @@ module _ (A : Assembly) (L : Lawful A.kind) (P : Program) (q : ℕ) where
 
   closed_write : {N : Names} {s t : State} (x : ℕ) (p : Place) → N x ≡ true → lacks p.frame → Closed N s t → Closed N s (write t x p)
   closed_write {N} {s} {t} x p n l h = record {
-    places = each_set_right (ClosedAt N) s.places t.places x p h.places (λ a b k. ((λ e. clash n e), (λ e. l)));
+    places = each_set_right (ClosedAt N) s.places t.places x p h.places (λ a b k. ((λ e. clash _ n e), (λ e. l)));
     devices = h.devices;
   }
 
@@ -195,7 +197,7 @@ module _ (A : Assembly) (L : Lawful A.kind) (P : Program) (q : ℕ) where
   closed_put : (r : Context) (t : Table) (i p : Place) (s : State) → lacks (told A r i) → Closed (cell_of t) s (put A r t i p s)
   closed_put r t i p s l =
       let k : Closed (cell_of t) s (lower A (cell_of t) (told A r i) s) = close (told A r i) l confined_refl in
-      by_cond (Closed (cell_of t) s) (within A t i)
+      cond_both (within A t i) _ _ (Closed (cell_of t) s)
       (λ e. closed_write (cell_at A t i) (put_in A r i p) (in_table t i.value e) (lacks_right (lacks_left l)) k)
       (λ e. k)
 
@@ -205,7 +207,7 @@ module _ (A : Assembly) (L : Lawful A.kind) (P : Program) (q : ℕ) where
   ConfinedRun N f = (r : Context) (s : State) → lacks r.decisions → Confined N s (f r s)
 
   confined_choice : {N : Names} (f g : Context → State → State) → ConfinedRun N f → ConfinedRun N g → (b : Bool) (r : Context) (s : State) → lacks r.decisions → Confined N s (cond b (f r s) (g r s))
-  confined_choice {N} f g y n b r s l = by_cond (Confined N s) b (λ e. y r s l) (λ e. n r s l)
+  confined_choice {N} f g y n b r s l = cond_both b _ _ (Confined N s) (λ e. y r s l) (λ e. n r s l)
 
   confined_decide : {M N : Names} → Sub M N → (f g : Context → State → State) → ConfinedRun N f → ConfinedRun N g → (b : Bool) (p : Place) (r : Context) (s : State) → lacks r.decisions → Confined N s (decide A M f g b p r s)
   confined_decide h f g y n b p r s l = confined_lower h _ (confined_choice f g y n b (under A r (told A r p)) s (lacks_left l))
@@ -214,14 +216,14 @@ module _ (A : Assembly) (L : Lawful A.kind) (P : Program) (q : ℕ) where
   confined_turns N f h a zero w r s l = confined_lower (λ x e. e) _ confined_refl
   confined_turns N f h a (suc k) w r s l =
       let v : ℕ = A.kind.mix w (told A r (at s a)) in
-      by_cond (Confined N s) (eqb (at s a).value 0)
+      cond_both (eqb (at s a).value 0) _ _ (Confined N s)
       (λ e. confined_lower (λ x e. e) _ confined_tick)
       (λ e. confined_trans confined_tick (confined_trans (h (under A r v) (tick s) (lacks_left l)) (confined_turns N f h a k v r (f (under A r v) (tick s)) l)))
 
   confined_put : {N : Names} (t : Table) → Sub (cell_of t) N → (r : Context) (i p : Place) (s : State) → Confined N s (put A r t i p s)
   confined_put {N} t h r i p s =
       let k : Confined N s (lower A (cell_of t) (told A r i) s) = confined_lower h (told A r i) confined_refl in
-      by_cond (Confined N s) (within A t i)
+      cond_both (within A t i) _ _ (Confined N s)
       (λ e. confined_write (cell_at A t i) (put_in A r i p) (h (cell_at A t i) (in_table t i.value e)) k)
       (λ e. k)
 
@@ -243,9 +245,6 @@ module _ (A : Assembly) (L : Lawful A.kind) (P : Program) (q : ℕ) where
 
   abbrev Fit : ℕ → Command → Type 0
   Fit = Fits P A.names
-
-  target_itself : (x : ℕ) → eqb x x ≡ true
-  target_itself x = eq-eqb x x refl
 
   confined_plain : (n o : ℕ) (c : Plain) → Fit n (plain_command o c) → ConfinedRun (A.names n) (run_plain A P o c)
   confined_plain n o (set_place x v) h r s l = confined_write x _ (h.0.0 x (target_itself x)) confined_refl
@@ -282,7 +281,7 @@ module _ (A : Assembly) (L : Lawful A.kind) (P : Program) (q : ℕ) where
   confined_calls : ((p : ℕ) → EveryBlock Fit (body P p)) → (k : ℕ) → ConfinedCalls (calls A P k)
   confined_calls fit zero p r s l = confined_refl
   confined_calls fit (suc k) p r s l =
-      by_cond (Confined (named A P (body P p)) s) (eqb p k)
+      cond_both (eqb p k) _ _ (Confined (named A P (body P p)) s)
       (λ e. subst (λ (j : ℕ). Confined (named A P (body P j)) s (run_block A P (calls A P k) (body P k) (entering A P k r) s)) (sym (eqb-true p k e))
       (confined_block (calls A P k) (confined_calls fit k) (body P k) (fit k) (entering A P k r) s l))
       (λ e. confined_calls fit k p r s l)
@@ -296,7 +295,7 @@ module _ (A : Assembly) (L : Lawful A.kind) (P : Program) (q : ℕ) where
   closed_turn : (N : Names) (f : Context → State → State) → ConfinedRun N f → (a k w : ℕ) (r : Context) (s : State) → ((w : ℕ) (s : State) → lacks w → Closed N s (turns A N f a k w r s)) → lacks (A.kind.mix w (told A r (at s a))) → Closed N s (turns A N f a (suc k) w r s)
   closed_turn N f h a k w r s more l =
       let v : ℕ = A.kind.mix w (told A r (at s a)) in
-      by_cond (Closed N s) (eqb (at s a).value 0)
+      cond_both (eqb (at s a).value 0) _ _ (Closed N s)
       (λ e. close v l confined_tick)
       (λ e. closed_after confined_tick (closed_after (h (under A r v) (tick s) (lacks_right l)) (more v (f (under A r v) (tick s)) l)))
 
@@ -340,7 +339,7 @@ module _ (A : Assembly) (L : Lawful A.kind) (P : Program) (q : ℕ) where
   alike_combined f r p o p' o' (inl e) (inl h) = inl (ap (λ (z : Place). combined A f r z p') e ∙ ap (combined A f r o) h)
 
   lacks_pick : (r : Context) (t : Table) (i : Place) (s : State) → lacks i.frame → lacks (pick A r t i s).frame
-  lacks_pick r t i s l = by_cond (λ (p : Place). lacks p.frame) (within A t i) (λ e. lacks_right (lacks_left (lacks_right l))) (λ e. lacks_right (lacks_right l))
+  lacks_pick r t i s l = cond_both (within A t i) _ _ (λ (p : Place). lacks p.frame) (λ e. lacks_right (lacks_left (lacks_right l))) (λ e. lacks_right (lacks_right l))
 
   alike_picked : (r : Context) (i p o : Place) → Alike p o → Alike (picked A r i p) (picked A r i o)
   alike_picked r i p o (inl e) = inl (ap (picked A r i) e)
@@ -360,7 +359,7 @@ module _ (A : Assembly) (L : Lawful A.kind) (P : Program) (q : ℕ) where
 
   told_same : (r : Context) (p o : Place) → Alike p o → holds (told A r p) → p ≡ o
   told_same r p o (inl e) h = e
-  told_same r p o (inr l) h = clash h (lacks_right l.0)
+  told_same r p o (inr l) h = clash _ h (lacks_right l.0)
 
   told_lacks : (r : Context) (p o : Place) → Alike p o → lacks (told A r p) → lacks (told A r o)
   told_lacks r p o (inl e) h = subst (λ (z : Place). lacks (told A r z)) e h
@@ -428,7 +427,7 @@ module _ (A : Assembly) (L : Lawful A.kind) (P : Program) (q : ℕ) where
   -- a confined run in which no place is named is closed
   closed_nowhere : {s t : State} → Confined nowhere s t → Closed nowhere s t
   closed_nowhere {s} {t} h = record {
-    places = each_weaker (KeptAt nowhere) (ClosedAt nowhere) (λ i x y f. (f, (λ e. clash e refl))) s.places t.places h.places;
+    places = each_weaker (KeptAt nowhere) (ClosedAt nowhere) (λ i x y f. (f, (λ e. clash _ e refl))) s.places t.places h.places;
     devices = h.devices;
   }
 

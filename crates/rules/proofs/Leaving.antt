@@ -1,9 +1,9 @@
 -- What calls and refused drives leave as it was.
 use Rattle.std.proofs.Common.{◌≡◌, ℕ, zero, suc, ◌+◌, ◌<◌, ◌≤◌, Bool, true, false, cond, ◌&&◌, eqb, ltb, List, [], ◌∷◌, map, length, get_or, set, is_some, is_ok, Option, sym, refl, ap, ◌∙◌, subst, ⊎_elim, arith, length-append}
-use lib.ListN.{length-map}
 use Rattle.std.specs.declared.option.Option.TheVariants as option
-use Rattle.std.proofs.lemmas.List.{length-set, get_or-set_same, get_or-set_other}
-use Rattle.std.proofs.lemmas.Bool.{lt-ltb, eq-eqb, ne_eqb, cases_eq, not-true, cond-true, cond-false, false≢true}
+use Rattle.std.specs.Option.{option_or}
+use Rattle.std.proofs.lemmas.List.{length-map, length-set, get_or-set_same, get_or-set_other}
+use Rattle.std.proofs.lemmas.Bool.{cond_both, lt-ltb, eq-eqb, ne_eqb, cases_eq, not-true, cond-true, cond-false, false≢true}
 use Rattle.layout.specs.declared.Table.{Table}
 use Rattle.layout.specs.Tree.{Plain, set_place, copy_place, combine_places, pick_cell, put_cell, drive_device, plain_command}
 use Rattle.layout.specs.Declarations.{Declaration}
@@ -17,11 +17,10 @@ use Rattle.rules.specs.declared.Call.{Call}
 use Rattle.rules.specs.declared.Call.TheVariants.{Post, Cycle, Read, Show}
 use Rattle.rules.specs.Assembly.{Assembly}
 use Rattle.rules.specs.declared.Context.{Context}
-use Rattle.rules.specs.Running.{State, place, at, write, first_of, lower_all, lower, told, within, cell_at, put_in, put, obstacle, drive_by, need_of, run_plain, run_entries}
+use Rattle.rules.specs.Running.{State, place, at, write, lower_all, lower, told, within, cell_at, put_in, put, obstacle, drive_by, need_of, run_plain, run_entries}
 use Rattle.rules.specs.Calls.{Held, place_in, party_frame, new_input, new_cell, new_device, new, post_answer, posted, started, cycle, after, after_all}
 use Rattle.rules.specs.Leaves.{AllAsItWas, Whole, AlwaysWhole, latest, InputsArePosted, Unmoved, RefusedUnmoved, TrailStays, TrailTells}
-use Rattle.rules.proofs.Tests.{by_cond}
-use Rattle.rules.proofs.Legal.{Cells, cells_body, in_table}
+use Rattle.rules.proofs.Legal.{Cells, cells_body, in_table, target_itself}
 use Rattle.rules.proofs.Runs.{Steady, keeps_entries}
 use Rattle.rules.proofs.Agrees.{new_input_lacks}
 
@@ -58,7 +57,7 @@ module _ (A : Assembly) where
 
   value_lower : (N : ℕ → Bool) (g : ℕ) (ps : List Place) (x : ℕ) → (get_or (lower_all A N g ps) x (place 0 0)).value ≡ (get_or ps x (place 0 0)).value
   value_lower N g [] x = refl
-  value_lower N g (p ∷ ps) zero = by_cond (λ (z : Place). z.value ≡ p.value) (N 0) (λ e. refl) (λ e. refl)
+  value_lower N g (p ∷ ps) zero = cond_both (N 0) _ _ (λ (z : Place). z.value ≡ p.value) (λ e. refl) (λ e. refl)
   value_lower N g (p ∷ ps) (suc x) = value_lower (λ x. N (suc x)) g ps x
 
 module _ (A : Assembly) (P : Program) where
@@ -88,7 +87,7 @@ module _ (A : Assembly) (P : Program) where
 
   leaves_put : (r : Context) (t : Table) (i p : Place) (s : State) → ((x : ℕ) → cell_of t x ≡ true → inputs ≤ x) → Leaves inputs s (put A r t i p s)
   leaves_put r t i p s h =
-      by_cond (Leaves inputs s) (within A t i)
+      cond_both (within A t i) _ _ (Leaves inputs s)
       (λ e. leaves_next s (lower A (cell_of t) (told A r i) s) _ (leaves_lower (cell_of t) (told A r i) s) (leaves_write (cell_at A t i) (put_in A r i p) (lower A (cell_of t) (told A r i) s) (h _ (in_table t i.value e))))
       (λ e. leaves_lower (cell_of t) (told A r i) s)
 
@@ -102,15 +101,12 @@ module _ (A : Assembly) (P : Program) where
     trail = λ e. some_first s.trail _ ∙ sym (lt-ltb 0 (s.refused + 1) (omega arith));
   }
     where
-      first_stays : (o p : Option Trail) (t : Trail) → o ≡ option.Some t → first_of o p ≡ option.Some t
-      first_stays o p t e = ap (λ (o : Option Trail). first_of o p) e
+      first_stays : (o p : Option Trail) (t : Trail) → o ≡ option.Some t → option_or o p ≡ option.Some t
+      first_stays o p t e = ap (λ (o : Option Trail). option_or o p) e
 
-      some_first : (o : Option Trail) (t : Trail) → is_some (first_of o (option.Some t)) ≡ true
+      some_first : (o : Option Trail) (t : Trail) → is_some (option_or o (option.Some t)) ≡ true
       some_first option.None t = refl
       some_first (option.Some u) t = refl
-
-  target_itself : (x : ℕ) → eqb x x ≡ true
-  target_itself x = eq-eqb x x refl
 
   leaves_plain : (n o : ℕ) (c : Plain) → Cells P n (plain_command o c) → (r : Context) (s : State) → Leaves inputs s (run_plain A P o c r s)
   leaves_plain n o (set_place x v) h r s = leaves_write x _ s (h x (target_itself x))
@@ -160,7 +156,7 @@ module _ (A : Assembly) (ds : List Declaration) (keeps : Keeps ds) where
 
   whole_after : (c : Call) (h : Held) → Whole P.contents h → Whole P.contents (after A P c h)
   whole_after (Post o x v) h w =
-      by_cond (Whole P.contents) (is_ok (post_answer P o x)) (λ e. record { places = length-set h.places x _ ∙ w.places; devices = w.devices }) (λ e. w)
+      cond_both (is_ok (post_answer P o x)) _ _ (Whole P.contents) (λ e. record { places = length-set h.places x _ ∙ w.places; devices = w.devices }) (λ e. w)
   whole_after Cycle h w = let l = cycle_leaves h in record { places = l.places ∙ w.places; devices = l.devices ∙ w.devices }
   whole_after (Read x q) h w = w
   whole_after (Show d) h w = w

@@ -1,9 +1,7 @@
 -- What the commands of an accepted package assign: places that the oracle names for their block, and no inputs.
-use Rattle.std.proofs.Common.{◌≡◌, ℕ, zero, suc, ◌+◌, ◌<◌, ◌≤◌, true, eqb, ltb, List, [], ◌∷◌, length, get_or, subst, arith}
-use Rattle.std.specs.List.{AllByRecursion}
+use Rattle.std.proofs.Common.{◌≡◌, ℕ, ◌+◌, ◌<◌, ◌≤◌, true, eqb, ltb, List, length, refl, arith}
 use Rattle.std.proofs.ByRecursion.{All-get_or}
-use Rattle.std.proofs.lemmas.Bool.{ltb-true, leb-true, lt-ltb, le-leb, eqb-true, and_parts, and_from, false≢true}
-use Rattle.layout.specs.declared.Procedure.{Procedure}
+use Rattle.std.proofs.lemmas.Bool.{eq-eqb, ltb-true, leb-true, lt-ltb, le-leb, eqb-true, and_parts, and_from, false≢true}
 use Rattle.layout.specs.declared.Table.{Table}
 use Rattle.layout.specs.Tree.{Plain, set_place, copy_place, combine_places, pick_cell, put_cell, drive_device, Command, plain_command, choose_block, loop_block, grant_block, call_procedure, Commands, no_commands, then_command, Block, numbered_block}
 use Rattle.layout.specs.Layout.{command_bytes, flat, encode_block, choice_head, loop_head, grant_head}
@@ -11,14 +9,15 @@ use Rattle.layout.specs.Folds.{size, size_block}
 use Rattle.layout.specs.Scope.{Scope, cell, plain_named, plain_targets}
 use Rattle.layout.specs.Limits as limits
 use Rattle.layout.specs.Limits.{KeepsCommands, KeepsBlock}
-use Rattle.layout.specs.Declarations.{Declaration, Contents, places}
+use Rattle.layout.specs.Declarations.{Declaration}
 use Rattle.layout.specs.Packages.{Keeps, encode}
-use Rattle.layout.specs.Accepted.{below, LawfulProcedures, Lawful}
-use Rattle.layout.specs.Program.{Program, program, body, table, no_block, no_table}
+use Rattle.layout.specs.Accepted.{below, Lawful}
+use Rattle.layout.specs.Program.{Program, program, body, table, no_table}
 use Rattle.layout.proofs.Lawful.{accepted_lawful_lem}
 use Rattle.oracle_laws.specs.Sets as sets
 use Rattle.oracle_laws.specs.Sets.{Sets, cell_of, target, assigns}
-use Rattle.oracle_laws.proofs.Every.{EveryIn, EveryCommands, EveryBlock}
+use Rattle.oracle_laws.proofs.Every.{EveryIn, EveryCommands, EveryBlock, joined}
+use Rattle.oracle_laws.proofs.Standing.{by_procedure}
 use Rattle.oracle_laws.proofs.Named.{Named, named_body}
 
 -- a command of block n assigns no input
@@ -29,33 +28,19 @@ Cells P n c = (x : ℕ) → assigns P c x ≡ true → length P.contents.inputs 
 abbrev pub Fits : Program → Sets → ℕ → Command → Type 0
 Fits P names n c = Named P names n c × Cells P n c
 
+-- a place is the target that it is
+pub target_itself : (x : ℕ) → eqb x x ≡ true
+target_itself x = eq-eqb x x refl
+
 -- a cell that the index finds is a cell of the table
 pub in_table : (t : Table) (v : ℕ) → ltb v t.length ≡ true → cell_of t (t.first + v) ≡ true
 in_table t v e =
     let l = ltb-true v t.length e in
     and_from _ _ (le-leb t.first (t.first + v) (omega arith)) (lt-ltb (t.first + v) (t.first + t.length) (omega arith))
 
--- ---- two facts of every command of a tree
-
-module _ (Q R : ℕ → Command → Type 0) where
-  mutual
-    both_in : (c : Command) → EveryIn Q c → EveryIn R c → EveryIn (λ n c. Q n c × R n c) c
-    both_in (plain_command o c) h k = tt
-    both_in (choose_block c b e) h k = (both b h.0 k.0, both e h.1 k.1)
-    both_in (loop_block a t b) h k = both b h k
-    both_in (grant_block g b) h k = both b h k
-    both_in (call_procedure p) h k = tt
-
-    both_all : (n : ℕ) (cs : Commands) → EveryCommands Q n cs → EveryCommands R n cs → EveryCommands (λ n c. Q n c × R n c) n cs
-    both_all n no_commands h k = tt
-    both_all n (then_command c cs) h k = ((h.0, k.0), both_in c h.1 k.1, both_all n cs h.2 k.2)
-
-    both : (b : Block) → EveryBlock Q b → EveryBlock R b → EveryBlock (λ n c. Q n c × R n c) b
-    both (numbered_block n cs) h k = both_all n cs h k
-
 -- ---- targets are cells
 
-module _ (P : Program) (k : ℕ) (cells : AllByRecursion (λ (t : Table). (0 < t.length) × (length P.contents.inputs ≤ t.first) × (t.first + t.length ≤ places P.contents)) P.contents.tables) where
+module _ (P : Program) (k : ℕ) (cells : (t : ℕ) → t < length P.contents.tables → length P.contents.inputs ≤ (table P t).first) where
   abbrev w : Scope
   w = below P.contents k
 
@@ -69,9 +54,9 @@ module _ (P : Program) (k : ℕ) (cells : AllByRecursion (λ (t : Table). (0 < t
   target_cell (pick_cell y t a) d h x e = same_cell x y h e
   target_cell (put_cell t a b) d h x e =
       let l = ltb-true t (length P.contents.tables) (and_parts _ _ (and_parts _ _ d).0).0 in
-      let i = All-get_or _ P.contents.tables t no_table l cells in
+      let i = cells t l in
       let m = leb-true (table P t).first x (and_parts _ _ e).0 in
-      omega (arith, i.1)
+      omega arith
   target_cell (drive_device d a) i h x e = absurd (false≢true e)
 
   mutual
@@ -90,16 +75,6 @@ module _ (P : Program) (k : ℕ) (cells : AllByRecursion (λ (t : Table). (0 < t
     cells_block : (b : Block) (d n at : ℕ) → KeepsBlock w d n at b → EveryBlock (Cells P) b
     cells_block (numbered_block i cs) d n at h = cells_all i cs d (n + 1) at h.1
 
--- what holds of each lawful procedure and its body holds of each body by its number, also of one that is not there
-pub by_procedure : (c : Contents) (Q : ℕ → Block → Type 0) → ((k : ℕ) → Q k no_block) → ((k n at : ℕ) (b : Block) → KeepsBlock (below c k) 0 n at b → Q k b) → (k n : ℕ) (ps : List Procedure) (bs : List Block) → LawfulProcedures c k n ps bs → (p : ℕ) → Q (k + p) (get_or bs p no_block)
-by_procedure c Q none one k n [] [] h p = none (k + p)
-by_procedure c Q none one k n [] (b ∷ bs) h p = absurd h
-by_procedure c Q none one k n (q ∷ ps) [] h p = absurd h
-by_procedure c Q none one k n (q ∷ ps) (b ∷ bs) h zero = let e : k ≡ k + 0 = omega arith in subst (λ (j : ℕ). Q j b) e (one k n q.start b h.0.body)
-by_procedure c Q none one k n (q ∷ ps) (b ∷ bs) h (suc p) =
-    let e : k + 1 + p ≡ k + suc p = omega arith in
-    subst (λ (j : ℕ). Q j (get_or bs p no_block)) e (by_procedure c Q none one (k + 1) (n + size_block b) ps bs h.1 p)
-
 -- in an accepted package
 module _ (ds : List Declaration) (kept : Keeps ds) where
   pub laws : Lawful (encode ds) (program ds).contents (program ds).bodies
@@ -107,8 +82,9 @@ module _ (ds : List Declaration) (kept : Keeps ds) where
 
   pub cells_body : (p : ℕ) → EveryBlock (Cells (program ds)) (body (program ds) p)
   cells_body p =
-      by_procedure (program ds).contents (λ k b. EveryBlock (Cells (program ds)) b) (λ k. tt) (λ k n at b h. cells_block (program ds) k laws.cells b 0 n at h) 0 0
+      by_procedure (program ds).contents (λ k b. EveryBlock (Cells (program ds)) b) (λ k. tt) (λ k n at b h. cells_block (program ds) k (λ t l. (All-get_or _ (program ds).contents.tables t no_table l laws.cells).1) b 0 n at h)
       (program ds).contents.procedures (program ds).bodies laws.procedures p
 
   pub fits_body : (names : Sets) → sets.Lawful (program ds) names → (p : ℕ) → EveryBlock (Fits (program ds) names) (body (program ds) p)
-  fits_body names law p = both (Named (program ds) names) (Cells (program ds)) (body (program ds) p) (named_body ds kept names law p) (cells_body p)
+  fits_body names law p =
+      joined (Named (program ds) names) (Cells (program ds)) (Fits (program ds) names) (λ n c h k. (h, k)) (body (program ds) p) (named_body ds kept names law p) (cells_body p)

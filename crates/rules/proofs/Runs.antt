@@ -1,5 +1,6 @@
 -- What every step of a run keeps, the run keeps.
 use Rattle.std.proofs.Common.{ℕ, zero, suc, Bool, eqb, List, [], ◌∷◌}
+use Rattle.std.proofs.lemmas.Bool.{cond_both}
 use Rattle.layout.specs.Tree.{Plain, asked, Command, plain_command, choose_block, loop_block, grant_block, call_procedure, Commands, no_commands, then_command, Block, numbered_block}
 use Rattle.layout.specs.Program.{Program, body}
 use Rattle.oracle_laws.proofs.Every.{EveryIn, EveryCommands, EveryBlock}
@@ -7,7 +8,6 @@ use Rattle.rules.specs.declared.Place.{Place}
 use Rattle.rules.specs.Assembly.{Assembly}
 use Rattle.rules.specs.declared.Context.{Context}
 use Rattle.rules.specs.Running.{State, at, tick, told, under, granted, lower, takes, decide, turns, named, either, run_plain, run, run_commands, run_block, entering, calls, fresh, run_entries}
-use Rattle.rules.proofs.Tests.{by_cond}
 
 -- a relation of the states before and after, which each plain command that fits keeps
 pub record Steady (A : Assembly) (P : Program) (Fit : ℕ → Command → Type 0) (R : State → State → Type 0) : Type 0 where
@@ -29,13 +29,13 @@ module _ (A : Assembly) (P : Program) (Fit : ℕ → Command → Type 0) (R : St
   lowered N g s t h = steady.next s t (lower A N g t) h (steady.lowers N g t)
 
   keeps_decide : (N : ℕ → Bool) (f g : Context → State → State) → Keeps f → Keeps g → (b : Bool) (p : Place) (r : Context) (s : State) → R s (decide A N f g b p r s)
-  keeps_decide N f g y n b p r s = lowered N (told A r p) s _ (by_cond (R s) b (λ e. y (under A r (told A r p)) s) (λ e. n (under A r (told A r p)) s))
+  keeps_decide N f g y n b p r s = lowered N (told A r p) s _ (cond_both b _ _ (R s) (λ e. y (under A r (told A r p)) s) (λ e. n (under A r (told A r p)) s))
 
   pub keeps_turns : (N : ℕ → Bool) (f : Context → State → State) → Keeps f → (a k w : ℕ) (r : Context) (s : State) → R s (turns A N f a k w r s)
   keeps_turns N f h a zero w r s = steady.lowers N w s
   keeps_turns N f h a (suc k) w r s =
       let v : ℕ = A.kind.mix w (told A r (at s a)) in
-      by_cond (R s) (eqb (at s a).value 0)
+      cond_both (eqb (at s a).value 0) _ _ (R s)
       (λ e. lowered N v s (tick s) (steady.ticks s))
       (λ e. ticked s _ (steady.next (tick s) (f (under A r v) (tick s)) _ (h (under A r v) (tick s)) (keeps_turns N f h a k v r (f (under A r v) (tick s)))))
 
@@ -60,7 +60,7 @@ module _ (A : Assembly) (P : Program) (Fit : ℕ → Command → Type 0) (R : St
     pub keeps_calls : (k p : ℕ) → Keeps (calls A P k p)
     keeps_calls zero p r s = steady.same s
     keeps_calls (suc k) p r s =
-        by_cond (R s) (eqb p k) (λ e. keeps_block (calls A P k) (keeps_calls k) (body P k) (fit k) (entering A P k r) s) (λ e. keeps_calls k p r s)
+        cond_both (eqb p k) _ _ (R s) (λ e. keeps_block (calls A P k) (keeps_calls k) (body P k) (fit k) (entering A P k r) s) (λ e. keeps_calls k p r s)
 
     pub keeps_entries : (es : List ℕ) (s : State) → R s (run_entries A P es s)
     keeps_entries [] s = steady.same s

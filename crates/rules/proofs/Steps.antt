@@ -2,7 +2,7 @@
 use Rattle.std.proofs.Common.{◌≡◌, ℕ, zero, suc, ◌+◌, ◌*◌, ◌≤◌, max, Bool, eqb, List, [], ◌∷◌, get_or, take, Option, sym, refl, subst, arith}
 use Rattle.std.specs.declared.option.Option.TheVariants as option
 use Rattle.std.proofs.lemmas.List.{get_or-take}
-use Rattle.std.proofs.lemmas.Bool.{eqb-true}
+use Rattle.std.proofs.lemmas.Bool.{cond_both, eqb-true}
 use Rattle.layout.specs.declared.Procedure.{Procedure}
 use Rattle.layout.specs.Tree.{Plain, set_place, copy_place, combine_places, pick_cell, put_cell, drive_device, asked, Command, plain_command, choose_block, loop_block, grant_block, call_procedure, Commands, no_commands, then_command, Block, numbered_block}
 use Rattle.layout.specs.Folds.{size_block, most, most_commands, most_block}
@@ -17,7 +17,6 @@ use Rattle.rules.specs.declared.Context.{Context}
 use Rattle.rules.specs.Running.{State, at, tick, told, under, granted, lower, within, put, obstacle, drive_by, takes, decide, turns, need_of, named, either, run_plain, run, run_commands, run_block, entering, calls, fresh, run_entries}
 use Rattle.rules.specs.Calls.{started}
 use Rattle.rules.specs.Bounds.{EntriesBounded, CycleBounded}
-use Rattle.rules.proofs.Tests.{by_cond}
 use Rattle.rules.proofs.Legal.{laws}
 
 -- a run from s to t takes at most n steps, and refuses at most one drive at each
@@ -53,7 +52,7 @@ step_rests {s} {t} h = record { grows = omega (arith, h.steps); steps = omega (a
 
 module _ (A : Assembly) (P : Program) where
   rests_put : (r : Context) (t : ℕ) (i p : Place) (s : State) → Rests s (put A r (table P t) i p s)
-  rests_put r t i p s = by_cond (Rests s) (within A (table P t) i) (λ e. record { steps = refl; refused = omega arith; kept = omega arith }) (λ e. record { steps = refl; refused = omega arith; kept = omega arith })
+  rests_put r t i p s = cond_both (within A (table P t) i) _ _ (Rests s) (λ e. record { steps = refl; refused = omega arith; kept = omega arith }) (λ e. record { steps = refl; refused = omega arith; kept = omega arith })
 
   rests_drive : (why : Option (Cause × ℕ)) (r : Context) (o d : ℕ) (p : Place) (s : State) → Rests s (drive_by A why r o d p s)
   rests_drive option.None r o d p s = record { steps = refl; refused = omega arith; kept = omega arith }
@@ -74,13 +73,13 @@ module _ (A : Assembly) (P : Program) where
   takes_decide : (m n : ℕ) (N : ℕ → Bool) (f g : Context → State → State) → Within m f → Within n g → (b : Bool) (p : Place) (r : Context) (s : State) → Takes (max m n) s (decide A N f g b p r s)
   takes_decide m n N f g y z b p r s =
       takes_lower A N (told A r p)
-      (by_cond (Takes (max m n) s) b (λ e. takes_more (omega arith) (y (under A r (told A r p)) s)) (λ e. takes_more (omega arith) (z (under A r (told A r p)) s)))
+      (cond_both b _ _ (Takes (max m n) s) (λ e. takes_more (omega arith) (y (under A r (told A r p)) s)) (λ e. takes_more (omega arith) (z (under A r (told A r p)) s)))
 
   takes_turns : (m : ℕ) (N : ℕ → Bool) (f : Context → State → State) → Within m f → (a k w : ℕ) (r : Context) (s : State) → Takes (k * (1 + m)) s (turns A N f a k w r s)
   takes_turns m N f h a zero w r s = takes_lower A N w (takes_more (omega arith) takes_none)
   takes_turns m N f h a (suc k) w r s =
       let v : ℕ = A.kind.mix w (told A r (at s a)) in
-      by_cond (Takes (suc k * (1 + m)) s) (eqb (at s a).value 0)
+      cond_both (eqb (at s a).value 0) _ _ (Takes (suc k * (1 + m)) s)
       (λ e. takes_lower A N v (takes_more (omega arith) takes_tick))
       (λ e. takes_more (omega arith) (takes_both takes_tick (takes_both (h (under A r v) (tick s)) (takes_turns m N f h a k v r (f (under A r v) (tick s))))))
 
@@ -139,7 +138,7 @@ module _ (A : Assembly) (ds : List Declaration) (keeps : Keeps ds) where
   takes_call : (k p : ℕ) → Within A P (get_or (take k steps) p 0) (calls A P k p)
   takes_call zero p r s = takes_more (omega arith) takes_none
   takes_call (suc k) p r s =
-      by_cond (Takes (get_or (take (suc k) steps) p 0) s) (eqb p k)
+      cond_both (eqb p k) _ _ (Takes (get_or (take (suc k) steps) p 0) s)
       (λ e.
       let i : p ≡ k = eqb-true p k e in
       subst (λ (j : ℕ). Takes (get_or (take (suc k) steps) j 0) s (run_block A P (calls A P k) (body P k) (entering A P k r) s)) (sym i)

@@ -1,6 +1,6 @@
 -- Agreement of two controllers: what shows where right q is needed, and what is read in the name of q, tells nothing of
 -- the posts of parties without q.
-use Rattle.std.specs.Prelude.{◌≡◌, ℕ, ◌<◌, Bool, false, cond, not, ◌&&◌, List, [], ◌∷◌, Some, None, Option, Result, ◌==◌}
+use Rattle.std.specs.Prelude.{◌≡◌, ℕ, ◌<◌, Bool, false, cond, not, ◌&&◌, List, [], ◌∷◌, filter, Some, None, Option, Result, ◌==◌}
 use Rattle.layout.specs.Declarations.{Declaration}
 use Rattle.layout.specs.Packages.{Keeps}
 use Rattle.layout.specs.Program.{Program, program}
@@ -29,8 +29,7 @@ module _ (A : Assembly) (P : Program) (q : ℕ) where
   struck (Show d) = false
 
   abbrev pub remaining : List Call → List Call
-  remaining [] = []
-  remaining (c ∷ cs) = cond (struck c) (remaining cs) (c ∷ remaining cs)
+  remaining cs = filter (λ c. not (struck c)) cs
 
   -- of devices with these needs, those that need q
   abbrev pub needing : List ℕ → List Device → List Device

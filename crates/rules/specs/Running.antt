@@ -1,5 +1,6 @@
 -- What each command does.
 use Rattle.std.specs.Prelude.{ℕ, zero, suc, ◌+◌, Bool, cond, not, ◌&&◌, ◌||◌, List, [], ◌∷◌, get_or, Some, None, Option, ◌==◌, nat_lt, slice_index, slice_index_or, slice_set}
+use Rattle.std.specs.Option.{option_or}
 use Rattle.frames.specs.Kinds.{gap}
 use Rattle.layout.specs.declared.Table.{Table}
 use Rattle.layout.specs.declared.Procedure.{Procedure}
@@ -55,14 +56,9 @@ given d v = device v (counted d.count)
 abbrev pub accept : State → ℕ → ℕ → State
 accept s d v = record { places = s.places; devices = slice_set s.devices d (given (slice_index_or s.devices d (device 0 0)) v); steps = s.steps; refused = s.refused; trail = s.trail }
 
--- the first of two, where there is one
-abbrev pub first_of : {X : Type 0} → Option X → Option X → Option X
-first_of (Some x) y = Some x
-first_of None y = y
-
 -- a drive is refused; the first refusal of a cycle stays
 abbrev pub refuse : State → Trail → State
-refuse s t = record { places = s.places; devices = s.devices; steps = s.steps; refused = s.refused + 1; trail = first_of s.trail (Some t) }
+refuse s t = record { places = s.places; devices = s.devices; steps = s.steps; refused = s.refused + 1; trail = option_or s.trail (Some t) }
 
 -- ---- frames
 
@@ -147,7 +143,7 @@ module _ (A : Assembly) where
 
   -- why a drive of a device with this need is refused, and the right that is missing; none where it is accepted
   abbrev pub obstacle : Context → ℕ → Place → Option (Cause × ℕ)
-  obstacle r need p = first_of (because Rights (gap A.kind r.rights need)) (because Information (gap A.kind (basis r p) need))
+  obstacle r need p = option_or (because Rights (gap A.kind r.rights need)) (because Information (gap A.kind (basis r p) need))
 
   abbrev pub drive_by : Option (Cause × ℕ) → Context → ℕ → ℕ → Place → State → State
   drive_by None r offset d p s = accept s d p.value

@@ -6,78 +6,65 @@ ghost use Rattle.rules.specs.Cases.{Cases};
 ghost use Rattle.rules.specs.Leaves.{AllAsItWas, AlwaysWhole, InputsArePosted, RefusedUnmoved, TrailStays, TrailTells};
 
 // What a right sees of a controller tells nothing of the posts of parties without it.
-pub fn agreement() -> u8
+#[tactic(auto, using(crate::proofs::Agrees::agreement_lem))]
+pub fn agreement()
     ensures { Agreement }
-{
-    0
-}
+{}
 
 // Both frame kinds, with both write oracles, keep the laws that agreement asks for.
-pub fn at_hand_lawful() -> u8
+#[tactic(auto, using(crate::proofs::AtHand::at_hand_lawful_lem))]
+pub fn at_hand_lawful()
     ensures { AtHandLawful }
-{
-    0
-}
+{}
 
 // Entries of an accepted package, run from any state, take no more steps than their bodies do at most.
-pub fn entries_bounded() -> u8
+#[tactic(auto, using(crate::proofs::Steps::entries_bounded_lem))]
+pub fn entries_bounded()
     ensures { EntriesBounded }
-{
-    0
-}
+{}
 
 // A cycle takes no more steps than loading found, at most 1,000,000, and refuses no more drives than it takes steps.
-pub fn cycle_bounded() -> u8
+#[tactic(auto, using(crate::proofs::Steps::cycle_bounded_lem))]
+pub fn cycle_bounded()
     ensures { CycleBounded }
-{
-    0
-}
+{}
 
 // A refused post, a read and a show leave all as it was.
-pub fn all_as_it_was() -> u8
+#[tactic(auto, using(crate::proofs::Leaving::all_as_it_was_lem))]
+pub fn all_as_it_was()
     ensures { AllAsItWas }
-{
-    0
-}
+{}
 
 // Whatever is called, there are as many places and devices as were declared.
-pub fn always_whole() -> u8
+pub fn always_whole()
     ensures { AlwaysWhole }
-{
-    0
-}
+{}
 
 // An input has the value that its party posted last, or else the declared one.
-pub fn inputs_are_posted() -> u8
+#[tactic(auto, using(crate::proofs::Leaving::inputs_are_posted_lem))]
+pub fn inputs_are_posted()
     ensures { InputsArePosted }
-{
-    0
-}
+{}
 
 // A refused drive is counted, and changes no place and no device.
-pub fn refused_unmoved() -> u8
+#[tactic(auto, using(crate::proofs::Leaving::refused_unmoved_lem))]
+pub fn refused_unmoved()
     ensures { RefusedUnmoved }
-{
-    0
-}
+{}
 
 // What is in the trail stays there until the next cycle: it is the first refused drive.
-pub fn trail_stays() -> u8
+#[tactic(auto, using(crate::proofs::Leaving::trail_stays_lem))]
+pub fn trail_stays()
     ensures { TrailStays }
-{
-    0
-}
+{}
 
 // There is a trail exactly where the latest cycle refused a drive.
-pub fn trail_tells() -> u8
+#[tactic(auto, using(crate::proofs::Leaving::trail_tells_lem))]
+pub fn trail_tells()
     ensures { TrailTells }
-{
-    0
-}
+{}
 
 // Eight small runs answer what was worked out by hand.
-pub fn worked_cases() -> u8
+pub fn worked_cases()
     ensures { Cases }
-{
-    0
-}
+{}

@@ -1,5 +1,5 @@
 use Rattle.std.proofs.Common.{refl}
-use Rattle.frames.specs.Kinds.{lowest, gap}
+use Rattle.frames.specs.Kinds.{gap}
 use Rattle.layout.specs.Front.{front}
 use Rattle.layout.specs.Reading.{read}
 use Rattle.layout.specs.Packages.{read_all, accepts, declarations}
@@ -7,35 +7,35 @@ use Rattle.rules.specs.Cases.{Case1, Case2, Case3, Case4, Case5, Case6, Case7, C
 use Rattle.rules.proofs.theorems.worked_cases.Goals as goal
 
 case1 : Case1
-unfolding lowest gap front read read_all accepts declarations
+unfolding gap front read read_all accepts declarations
 case1 = (refl, refl, refl)
 
 case2 : Case2
-unfolding lowest gap front read read_all accepts declarations
+unfolding gap front read read_all accepts declarations
 case2 = refl
 
 case3 : Case3
-unfolding lowest gap front read read_all accepts declarations
+unfolding gap front read read_all accepts declarations
 case3 = refl
 
 case4 : Case4
-unfolding lowest gap front read read_all accepts declarations
+unfolding gap front read read_all accepts declarations
 case4 = (refl, refl)
 
 case5 : Case5
-unfolding lowest gap
+unfolding gap
 case5 = (refl, refl, refl)
 
 case6 : Case6
-unfolding lowest gap front read read_all accepts declarations
+unfolding gap front read read_all accepts declarations
 case6 = refl
 
 case7 : Case7
-unfolding lowest gap front read read_all accepts declarations
+unfolding gap front read read_all accepts declarations
 case7 = (refl, refl)
 
 case8 : Case8
-unfolding lowest gap front read read_all accepts declarations
+unfolding gap front read read_all accepts declarations
 case8 = (refl, refl, refl, refl)
 
 pub returns : goal.returns

@@ -4,10 +4,10 @@ use Rattle.layout.specs.Layout.{Flat, command_bytes}
 use Rattle.commands.specs.Reads.{flat_of}
 use Rattle.oracles.proofs.Walks.{going_start, going_end, off_bytes, going_hit, going_on, plain_told, choice_told, first_told, second_told, loop_told, grant_told, call_told, no_call_told, lighter}
 use Rattle.oracles.proofs.Held.{body_short}
-use Rattle.oracles.proofs.walking.Walking.+may_write.Goals as goal
+use Rattle.oracles.proofs.walking.Question.+may_write.Goals as goal
 
 pub any_writes-loop-command-init : goal.any_writes-loop-command-init
-any_writes-loop-command-init t c = going_start _ _ _ _ c.type_inv.bytes
+any_writes-loop-command-init t c = going_start _ _ c.type_inv.bytes
 
 pub any_writes-writes-requires : goal.any_writes-writes-requires
 any_writes-writes-requires t c =
@@ -28,32 +28,33 @@ any_writes-loop-command-preserved t c = going_on c.loop-command.invariant c.in-O
 pub any_writes-returns : goal.any_writes-returns
 any_writes-returns t c = going_end c.loop-command.invariant _ c.in_default.ensures
 
-pub writes-any_writes-requires-then-called-limit : goal.writes-any_writes-requires-then-called-limit
-writes-any_writes-requires-then-called-limit t c =
-    let all : List ℕ = vec_items c.args.self.now.held.bytes in
-    let s : length c.body.result.now ≤ length all = omega (arith, ap length c.body.ensures, body_short c.args.self.now.held c.from-called.result) in
-    (omega (arith, c.decreases, lighter c.from-called.result c.args.limit (length all) (length c.body.result.now) (2 * length (command_bytes (flat_of c.args.command))) c.if-called-limit.true s), tt)
+pub writes-any_writes-requires-then-limit-self : goal.writes-any_writes-requires-then-limit-self
+writes-any_writes-requires-then-limit-self t c =
+    let all : List ℕ = vec_items c.args.self.now.held.now.bytes in
+    let s : length c.body.result.now ≤ length all = omega (arith, ap length c.body.ensures, body_short c.args.self.now.held.now c.from-limit.result) in
+    (omega (arith, c.decreases, lighter c.from-limit.result c.args.self.now.limit (length all) (length c.body.result.now) (2 * length (command_bytes (flat_of c.args.command))) c.if-limit-self.true s), tt)
 
 pub writes-returns-in-Plain : goal.writes-returns-in-Plain
-writes-returns-in-Plain t c = plain_told _ _ _ _ _ _ (ap flat_of c.in-Plain.is) c.targets.ensures
+writes-returns-in-Plain t c = plain_told c.args.self.now _ _ _ (ap flat_of c.in-Plain.is) c.is_target_of.ensures
 
 pub writes-returns-in-Loop : goal.writes-returns-in-Loop
-writes-returns-in-Loop t c = loop_told _ _ _ _ _ _ _ _ (ap flat_of c.in-Loop.is) c.any_writes.ensures
+writes-returns-in-Loop t c = loop_told c.args.self.now _ _ _ _ _ (ap flat_of c.in-Loop.is) c.any_writes.ensures
 
 pub writes-returns-in-Grant : goal.writes-returns-in-Grant
-writes-returns-in-Grant t c = grant_told _ _ _ _ _ _ _ (ap flat_of c.in-Grant.is) c.any_writes-in-Grant.ensures
+writes-returns-in-Grant t c = grant_told c.args.self.now _ _ _ _ (ap flat_of c.in-Grant.is) c.any_writes-in-Grant.ensures
 
-pub writes-returns-then-called-limit : goal.writes-returns-then-called-limit
-writes-returns-then-called-limit t c = call_told _ _ _ _ _ c.from-called.result _ _ (ap flat_of c.in-Call.is) c.from-called.ensures c.if-called-limit.true c.body.ensures c.any_writes-then-called-limit.ensures
+pub writes-returns-then-limit-self : goal.writes-returns-then-limit-self
+writes-returns-then-limit-self t c =
+    call_told c.args.self.now _ _ c.from-limit.result _ _ (ap flat_of c.in-Call.is) c.from-limit.ensures c.if-limit-self.true c.body.ensures c.any_writes-then-limit-self.ensures
 
-pub writes-returns-else-called-limit : goal.writes-returns-else-called-limit
-writes-returns-else-called-limit t c = no_call_told _ _ _ _ _ c.from-called.result (ap flat_of c.in-Call.is) c.from-called.ensures c.if-called-limit.false
+pub writes-returns-else-limit-self : goal.writes-returns-else-limit-self
+writes-returns-else-limit-self t c = no_call_told c.args.self.now _ _ c.from-limit.result (ap flat_of c.in-Call.is) c.from-limit.ensures c.if-limit-self.false
 
 pub either_writes-returns-then-any_writes : goal.either_writes-returns-then-any_writes
-either_writes-returns-then-any_writes t c = first_told _ _ _ _ _ _ c.any_writes.ensures c.if-any_writes.true
+either_writes-returns-then-any_writes t c = first_told c.args.self.now _ _ _ c.any_writes.ensures c.if-any_writes.true
 
 pub either_writes-returns-else-any_writes : goal.either_writes-returns-else-any_writes
-either_writes-returns-else-any_writes t c = second_told _ _ _ _ _ _ c.any_writes.ensures _ c.if-any_writes.false c.any_writes-else-any_writes.ensures
+either_writes-returns-else-any_writes t c = second_told c.args.self.now _ _ _ c.any_writes.ensures _ c.if-any_writes.false c.any_writes-else-any_writes.ensures
 
 pub writes-either_writes-requires : goal.writes-either_writes-requires
 writes-either_writes-requires t c =
@@ -68,7 +69,7 @@ writes-either_writes-requires-in-Try t c =
     (omega (arith, c.decreases), tt)
 
 pub writes-returns-in-When : goal.writes-returns-in-When
-writes-returns-in-When t c = choice_told _ _ _ _ (when_place _) _ _ _ (ap flat_of c.in-When.is) c.either_writes.ensures
+writes-returns-in-When t c = choice_told c.args.self.now _ (when_place _) _ _ _ (ap flat_of c.in-When.is) c.either_writes.ensures
 
 pub writes-returns-in-Try : goal.writes-returns-in-Try
-writes-returns-in-Try t c = choice_told _ _ _ _ (try_frame _ _) _ _ _ (ap flat_of c.in-Try.is) c.either_writes-in-Try.ensures
+writes-returns-in-Try t c = choice_told c.args.self.now _ (try_frame _ _) _ _ _ (ap flat_of c.in-Try.is) c.either_writes-in-Try.ensures
