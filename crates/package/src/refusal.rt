@@ -1,7 +1,7 @@
 // Why a package is refused.
 ghost use Rattle.std.specs.Prelude.{◌≡◌};
 ghost use Rattle.package.specs.declared.refusal.Refusal.TheVariants.{Memory};
-ghost use Rattle.package.specs.Faults.{number as number_of, offset as offset_of, fault_of};
+ghost use Rattle.package.specs.Faults.{number as number_of, offset as offset_of, fault_of, HasNumber};
 
 use commands::Unread;
 use std::alloc::{AllocError, AllocFailed};
@@ -31,6 +31,34 @@ pub enum Fault {
     TooManySteps = 10,
     // Bytes after FINISH.
     AfterFinish = 11,
+}
+
+// A number that no fault has.
+#[derive(Clone, Copy, Debug, PartialEq, Eq)]
+pub struct NoSuchFault(pub u8);
+
+// The fault that has this number.
+impl TryFrom<u8> for Fault {
+    type Error = NoSuchFault;
+
+    ghost try_from_gives = { HasNumber };
+
+    fn try_from(number: u8) -> Result<Fault, NoSuchFault> {
+        match number {
+            1 => Ok(Fault::TooLong),
+            2 => Ok(Fault::EndsEarly),
+            3 => Ok(Fault::NoSuchByte),
+            4 => Ok(Fault::ByteFalls),
+            5 => Ok(Fault::OverLimit),
+            6 => Ok(Fault::NotDeclared),
+            7 => Ok(Fault::InputAsTarget),
+            8 => Ok(Fault::PastEnd),
+            9 => Ok(Fault::TooDeep),
+            10 => Ok(Fault::TooManySteps),
+            11 => Ok(Fault::AfterFinish),
+            _ => Err(NoSuchFault(number)),
+        }
+    }
 }
 
 // Why a package is refused: a fault and the offset at which it stands, or there was not enough memory.

@@ -1,37 +1,30 @@
 // The answers that loading a package gives.
-ghost use Rattle.package_cases.specs.Answers.{Whole};
+ghost use Rattle.std.specs.Prelude.{◌≡◌, IfOk, length};
 
 use package::load;
+use package::refusal::Refusal;
 use std::alloc::Global;
 use std::fmt;
 
-// Accepted, with the length of the package that is held; or refused, with number and offset.
+// The length of the package that is held where it is accepted, or why it is refused.
 #[derive(Clone, Copy, PartialEq, Eq)]
-pub(crate) enum Answer {
-    Accepted { length: usize },
-    Refused { number: u8, offset: usize },
-}
+pub(crate) struct Answer(pub(crate) Result<usize, Refusal>);
 
 impl fmt::Display for Answer {
     fn fmt<W: fmt::Write>(&self, f: &mut fmt::Formatter<W>) -> fmt::Result {
-        match self {
-            Answer::Accepted { length } => write!(f, "accepted with {length} bytes"),
-            Answer::Refused { number, offset } => write!(f, "refusal {number} at {offset}"),
+        match self.0 {
+            Ok(length) => write!(f, "accepted with {length} bytes"),
+            Err(refusal) => {
+                let (number, offset) = (refusal.number(), refusal.offset());
+                write!(f, "refusal {number} at {offset}")
+            }
         }
     }
 }
 
-// What loading these bytes answers.
+// What loading these bytes answers: an accepted package is held whole.
 pub(crate) fn answer_to(heap: Global, bytes: &[u8]) -> Answer
-    ensures { Whole bytes.now result }
+    ensures { IfOk result.0 (λ n. n ≡ length bytes.now) }
 {
-    match load(heap, bytes) {
-        Ok(package) => Answer::Accepted {
-            length: package.bytes().len(),
-        },
-        Err(refusal) => Answer::Refused {
-            number: refusal.number(),
-            offset: refusal.offset(),
-        },
-    }
+    Answer(load(heap, bytes).map(|package| package.bytes().len()))
 }

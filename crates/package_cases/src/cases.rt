@@ -1,10 +1,12 @@
 // The cases, read from their text.
-ghost use Rattle.package_cases.specs.Answers.{Numbered};
-ghost use Rattle.std.specs.Prelude.{IfSome};
+ghost use Rattle.std.specs.Prelude.{◌<◌, IfSome, IfErr};
+ghost use Rattle.package.specs.Faults.{number as number_of};
 
 use super::answer::Answer;
-use super::hexadecimal::bytes_of;
-use std::alloc::{AllocError, Global};
+use super::stop::Stop;
+use hex::FromHexError;
+use package::refusal::{Fault, Refusal};
+use std::alloc::Global;
 
 // A package and what loading it has to answer.
 #[derive(Drop)]
@@ -38,36 +40,43 @@ fn lines_of<'a>(text: &'a str) -> Option<Lines<'a>> {
     }
 }
 
-// The answer of these two numbers: 0 and a length, or a refusal's number and offset.
+// The answer of these two numbers: 0 and a length, or a refusal's number and offset. A refusal has a number, so want of
+// memory, which has none, is never expected.
 fn expected_of(text: &str) -> Option<Answer>
-    ensures { IfSome result Numbered }
+    ensures { IfSome result (λ a. IfErr a.0 (λ e. 0 < number_of e)) }
 {
     let (number, figure) = text.split_once(" ")?;
     let number = number.parse::<u8>().ok()?;
     let figure = figure.parse::<usize>().ok()?;
-    match number {
-        0 => Some(Answer::Accepted { length: figure }),
-        _ => Some(Answer::Refused {
-            number,
-            offset: figure,
-        }),
+    if number == 0 {
+        return Some(Answer(Ok(figure)));
     }
+    let fault = Fault::try_from(number).ok()?;
+    Some(Answer(Err(Refusal::Fault(fault, figure))))
 }
 
-// The case that a text writes; none where it does not write one.
-pub(crate) fn case_of<'a>(heap: Global, text: &'a str) -> Result<Option<Case<'a>>, AllocError> {
-    let Some(lines) = lines_of(text) else {
-        return Ok(None);
-    };
-    let Some(expected) = expected_of(lines.expected) else {
-        return Ok(None);
-    };
-    match bytes_of(heap, lines.package)? {
-        Some(package) => Ok(Some(Case {
-            name: lines.name,
-            package,
-            expected,
-        })),
-        None => Ok(None),
+// The bytes that a text writes, two digits to a byte, 0 to 9 and A to F.
+fn bytes_of<'a>(heap: Global, text: &str, unreadable: Stop<'a>) -> Result<Vec<u8>, Stop<'a>> {
+    if text.bytes().any(|byte| byte.is_ascii_lowercase()) {
+        return Err(unreadable);
     }
+    hex::decode(heap, text).map_err(|error| match error {
+        FromHexError::OutOfMemory => Stop::NoMemory,
+        _ => unreadable,
+    })
+}
+
+// The case that a text writes.
+pub(crate) fn case_of<'a>(heap: Global, text: &'a str) -> Result<Case<'a>, Stop<'a>> {
+    let unreadable = Stop::Unreadable {
+        line: text.lines().next().unwrap_or(text),
+    };
+    let lines = lines_of(text).ok_or(unreadable)?;
+    let expected = expected_of(lines.expected).ok_or(unreadable)?;
+    let package = bytes_of(heap, lines.package, unreadable)?;
+    Ok(Case {
+        name: lines.name,
+        package,
+        expected,
+    })
 }

@@ -9,7 +9,7 @@ use std::io::Read;
 mod answer;
 mod cases;
 mod comparison;
-mod hexadecimal;
+mod stop;
 
 fn main(rt: HostRuntime) -> io::Result<()> {
     let mut input = Vec::new(rt.alloc());
