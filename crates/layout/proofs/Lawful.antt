@@ -1,10 +1,10 @@
 -- What holds of every accepted package, declaration by declaration.
 use Rattle.std.proofs.Common.{◌≡◌, ℕ, ◌+◌, ◌<◌, ◌≤◌, false, eqb, ltb, List, [], ◌∷◌, ◌++◌, map, length, get_or, take, drop, sym, refl, ap, ◌∙◌, subst, append_assoc, append-nil, arith, length-append, length-drop, drop-drop}
-use mathlib.Core.List.{map-append}
+use Rattle.std.proofs.lemmas.List.{length_push, map-append}
 use Rattle.std.proofs.Math.ListN.{length-map}
 use Rattle.std.proofs.Math.Seq.{take-append_seam, take-append-le, drop-append_seam}
-use Rattle.std.specs.List.{AllByRecursion}
-use Rattle.std.proofs.ByRecursion.{All-push, All-weaker}
+use Rattle.std.specs.List.{All}
+use Rattle.std.proofs.lemmas.List.Elements.{All-nil, All-push, All-weaker}
 use Rattle.std.proofs.lemmas.Bool.{ltb-true, leb-true, and_parts, eqb-false, not-true}
 use Rattle.layout.specs.declared.Input.{Input}
 use Rattle.layout.specs.declared.Table.{Table}
@@ -16,9 +16,9 @@ use Rattle.layout.specs.Layout.{encode_block}
 use Rattle.layout.specs.Folds.{size_block, most_block, highest_block, spans_block}
 use Rattle.layout.specs.Scope.{Scope}
 use Rattle.layout.specs.Limits.{KeepsBlock}
-use Rattle.layout.specs.Declarations.{Simple, party_item, input_item, cell_item, table_item, device_item, entry_item, Declaration, simple_declaration, procedure_declaration, proc, item_bytes, item, lead, proc_head, Contents, nothing, places, body_steps, scope, procedure, declare_simple, declare}
+use Rattle.layout.specs.Declarations.{Simple, party_item, input_item, cell_item, table_item, device_item, entry_item, Declaration, simple_declaration, procedure_declaration, proc, item_bytes, item, lead, proc_head, Contents, nothing, body_steps, scope, procedure, declare_simple, declare}
 use Rattle.layout.specs.Packages.{Keep, KeepAll, encode, contents_from}
-use Rattle.layout.specs.Accepted.{bodies, below, LawfulProcedure, LawfulProcedures, Lie, all_spans, cycle_most, Lawful, AcceptedLawful}
+use Rattle.layout.specs.Accepted.{bodies, below, LawfulProcedure, LawfulProcedures, Lie, all_spans, cycle_most, HoldsCells, Lawful, AcceptedLawful}
 use Rattle.layout.proofs.Sizes.{spans_size_block}
 use Rattle.layout.proofs.Heights.{low_block}
 
@@ -96,13 +96,10 @@ push_lie bytes (q ∷ ps) (x ∷ bs) p b h i = (h.0, push_lie bytes ps bs p b h.
 no_procedures : (c c' : Contents) (ps : List Procedure) (bs : List Block) → ps ≡ [] → bs ≡ [] → LawfulProcedures c' 0 0 ps bs
 no_procedures c c' ps bs e f = rw (e, f) tt
 
-one_more : {X : Type 0} (xs : List X) (x : X) → length (xs ++ (x ∷ [])) ≡ length xs + 1
-one_more xs x = length-append xs (x ∷ [])
-
 lawful_simple : (bytes : List ℕ) (x : Simple) (c : Contents) (bs : List Block) (at latest : ℕ) → Lawful bytes c bs → Early latest c bs → Keep c at latest (simple_declaration x) → Lawful bytes (declare_simple c x) bs × Early (lead (item (simple_declaration x))) (declare_simple c x) bs
 lawful_simple bytes (party_item g) c bs at latest h e k =
     let o = k.order in
-    let l = one_more c.parties g in (
+    let l = length_push c.parties g in (
       record {
         few_parties = omega (arith, ltb-true _ _ k.limit);
         few_places = h.few_places;
@@ -124,7 +121,7 @@ lawful_simple bytes (party_item g) c bs at latest h e k =
     )
 lawful_simple bytes (input_item i) c bs at latest h e k =
     let o = k.order in
-    let l = one_more c.inputs i in (
+    let l = length_push c.inputs i in (
       record {
         few_parties = h.few_parties;
         few_places = omega (arith, ltb-true _ _ k.limit);
@@ -134,7 +131,7 @@ lawful_simple bytes (input_item i) c bs at latest h e k =
         few_entries = h.few_entries;
         few_blocks = h.few_blocks;
         owned = All-push (λ (i : Input). i.party < length c.parties) c.inputs i h.owned (ltb-true _ _ k.names);
-        cells = subst (λ (ts : List Table). AllByRecursion (λ (t : Table). (0 < t.length) × (length (c.inputs ++ (i ∷ [])) ≤ t.first) × (t.first + t.length ≤ length (c.inputs ++ (i ∷ [])) + length c.cells)) ts) (sym (e.tables (omega arith))) tt;
+        cells = subst (λ (ts : List Table). All (HoldsCells (declare_simple c (input_item i))) ts) (sym (e.tables (omega arith))) (All-nil _);
         procedures = no_procedures c _ _ _ (e.procedures (omega arith)) (e.bodies (omega arith));
         lie = h.lie;
         spans = h.spans;
@@ -146,7 +143,7 @@ lawful_simple bytes (input_item i) c bs at latest h e k =
     )
 lawful_simple bytes (cell_item x) c bs at latest h e k =
     let o = k.order in
-    let l = one_more c.cells x in (
+    let l = length_push c.cells x in (
       record {
         few_parties = h.few_parties;
         few_places = omega (arith, ltb-true _ _ k.limit);
@@ -156,7 +153,7 @@ lawful_simple bytes (cell_item x) c bs at latest h e k =
         few_entries = h.few_entries;
         few_blocks = h.few_blocks;
         owned = h.owned;
-        cells = subst (λ (ts : List Table). AllByRecursion (λ (t : Table). (0 < t.length) × (length c.inputs ≤ t.first) × (t.first + t.length ≤ length c.inputs + length (c.cells ++ (x ∷ [])))) ts) (sym (e.tables (omega arith))) tt;
+        cells = subst (λ (ts : List Table). All (HoldsCells (declare_simple c (cell_item x))) ts) (sym (e.tables (omega arith))) (All-nil _);
         procedures = no_procedures c _ _ _ (e.procedures (omega arith)) (e.bodies (omega arith));
         lie = h.lie;
         spans = h.spans;
@@ -168,7 +165,7 @@ lawful_simple bytes (cell_item x) c bs at latest h e k =
     )
 lawful_simple bytes (table_item x) c bs at latest h e k =
     let o = k.order in
-    let l = one_more c.tables x in
+    let l = length_push c.tables x in
     let n = and_parts _ _ k.names in (
       record {
         few_parties = h.few_parties;
@@ -179,7 +176,7 @@ lawful_simple bytes (table_item x) c bs at latest h e k =
         few_entries = h.few_entries;
         few_blocks = h.few_blocks;
         owned = h.owned;
-        cells = All-push (λ (t : Table). (0 < t.length) × (length c.inputs ≤ t.first) × (t.first + t.length ≤ places c)) c.tables x h.cells (some x.length (not-true _ k.length), leb-true _ _ (and_parts _ _ n.0).0, leb-true _ _ n.1);
+        cells = All-push (HoldsCells c) c.tables x h.cells (some x.length (not-true _ k.length), leb-true _ _ (and_parts _ _ n.0).0, leb-true _ _ n.1);
         procedures = no_procedures c _ _ _ (e.procedures (omega arith)) (e.bodies (omega arith));
         lie = h.lie;
         spans = h.spans;
@@ -194,7 +191,7 @@ lawful_simple bytes (table_item x) c bs at latest h e k =
     some m z = let f = eqb-false m 0 z in omega arith
 lawful_simple bytes (device_item g) c bs at latest h e k =
     let o = k.order in
-    let l = one_more c.needs g in (
+    let l = length_push c.needs g in (
       record {
         few_parties = h.few_parties;
         few_places = h.few_places;
@@ -216,7 +213,7 @@ lawful_simple bytes (device_item g) c bs at latest h e k =
     )
 lawful_simple bytes (entry_item p) c bs at latest h e k =
     let o = k.order in
-    let l = one_more c.entries p in
+    let l = length_push c.entries p in
     let s = push_cycle (body_steps c) c.entries p in (
       record {
         few_parties = h.few_parties;
@@ -244,7 +241,7 @@ lawful_procedure bytes p b c bs at latest there h e k =
     let r = and_parts (ltb (length c.procedures) 32) (ltb (length c.spans) 256) k.limit in
     let x : Procedure = procedure c at p b in
     let d : Contents = declare c at (procedure_declaration p b) in
-    let l = one_more c.procedures x in
+    let l = length_push c.procedures x in
     let m = length-append c.spans (spans_block (at + proc_head) b) in
     let z = spans_size_block b (at + proc_head) in
     let none : c.entries ≡ [] = e.entries (omega arith) in
@@ -280,7 +277,7 @@ lawful_procedure bytes p b c bs at latest there h e k =
         procedures = push_procedure d 0 0 c.procedures bs x b (carry_procedures c d (length c.procedures) (omega arith) earlier 0 0 c.procedures bs (omega arith) h.procedures) new;
         lie = push_lie bytes c.procedures bs x b h.lie there;
         spans = ap (λ (t : List Span). t ++ spans_block (at + proc_head) b) h.spans ∙ sym (push_spans c 0 0 c.procedures bs x b h.procedures);
-        entries = subst (λ (es : List ℕ). AllByRecursion (λ (n : ℕ). n < length (c.procedures ++ (x ∷ []))) es) (sym none) tt;
+        entries = subst (λ (es : List ℕ). All (λ (n : ℕ). n < length (c.procedures ++ (x ∷ []))) es) (sym none) (All-nil _);
         steps = h.steps ∙ ap (cycle_most (body_steps c)) none ∙ sym (ap (cycle_most (body_steps d)) none);
         brief = h.brief;
       },
@@ -320,12 +317,12 @@ accepted_lawful_lem ds k = all_lawful (encode ds) ds nothing [] 0 0 refl start e
       few_procedures = omega arith;
       few_entries = omega arith;
       few_blocks = omega arith;
-      owned = tt;
-      cells = tt;
+      owned = All-nil _;
+      cells = All-nil _;
       procedures = tt;
       lie = tt;
       spans = refl;
-      entries = tt;
+      entries = All-nil _;
       steps = refl;
       brief = omega arith;
     }

@@ -1,6 +1,6 @@
 -- What holds of every accepted package.
 use Rattle.std.specs.Prelude.{◌≡◌, ℕ, ◌+◌, ◌<◌, ◌≤◌, List, [], ◌∷◌, ◌++◌, length, take, drop, slice_index}
-use Rattle.std.specs.List.{AllByRecursion}
+use Rattle.std.specs.List.{All}
 use Rattle.layout.specs.declared.Input.{Input}
 use Rattle.layout.specs.declared.Table.{Table}
 use Rattle.layout.specs.declared.Procedure.{Procedure}
@@ -60,6 +60,10 @@ abbrev pub cycle_most : List ℕ → List ℕ → ℕ
 cycle_most below [] = 0
 cycle_most below (e ∷ es) = 1 + slice_index below e + cycle_most below es
 
+-- a table holds at least one cell, and cells only
+abbrev pub HoldsCells : Contents → Table → Type 0
+HoldsCells c t = (0 < t.length) × (length c.inputs ≤ t.first) × (t.first + t.length ≤ places c)
+
 pub record Lawful (bytes : List ℕ) (c : Contents) (bs : List Block) : Type 0 where
   pub few_parties : length c.parties ≤ 16
   pub few_places : places c ≤ 128
@@ -68,12 +72,12 @@ pub record Lawful (bytes : List ℕ) (c : Contents) (bs : List Block) : Type 0 w
   pub few_procedures : length c.procedures ≤ 32
   pub few_entries : length c.entries ≤ 32
   pub few_blocks : length c.spans ≤ 256
-  pub owned : AllByRecursion (λ (i : Input). i.party < length c.parties) c.inputs
-  pub cells : AllByRecursion (λ (t : Table). (0 < t.length) × (length c.inputs ≤ t.first) × (t.first + t.length ≤ places c)) c.tables
+  pub owned : All (λ (i : Input). i.party < length c.parties) c.inputs
+  pub cells : All (HoldsCells c) c.tables
   pub procedures : LawfulProcedures c 0 0 c.procedures bs
   pub lie : Lie bytes c.procedures bs
   pub spans : c.spans ≡ all_spans c.procedures bs
-  pub entries : AllByRecursion (λ (e : ℕ). e < length c.procedures) c.entries
+  pub entries : All (λ (e : ℕ). e < length c.procedures) c.entries
   pub steps : c.steps ≡ cycle_most (body_steps c) c.entries
   pub brief : c.steps ≤ 1000000
 

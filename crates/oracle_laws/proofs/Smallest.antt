@@ -1,8 +1,7 @@
 -- The smallest sets keep the laws, and what keeps the laws names all that they name.
 use Rattle.std.proofs.Common.{◌≡◌, ℕ, zero, suc, ◌<◌, true, List, length, sym, refl, ap, ◌∙◌, subst, ⊎_elim, arith}
 use Rattle.std.specs.List.{All, AllByRecursion}
-use Rattle.std.proofs.ByRecursion.{All-weaker}
-use Rattle.std.proofs.lemmas.List.Elements.{All-from_recursion}
+use Rattle.std.proofs.lemmas.List.Elements.{All-from_recursion, All-weaker}
 use Rattle.std.proofs.lemmas.Bool.{eq-eqb, ne_eqb, cases_eq, cond-true, cond-false, or_cases, or_left, or_right, false≢true}
 use Rattle.layout.specs.Tree.{Command, plain_command, choose_block, loop_block, grant_block, call_procedure, Commands, no_commands, then_command, Block, numbered_block}
 use Rattle.layout.specs.Declarations.{Declaration}
@@ -59,7 +58,7 @@ module _ (ds : List Declaration) (kept : Keeps ds) where
   runs_writes n (call_procedure p) h k = (λ x w. sym (at_body p k.0 x) ∙ w, tt)
 
   within : (n m : ℕ) (c : Command) → ((x : ℕ) → writes P env c x ≡ true → smallest P n x ≡ true) → Placed P m c → Calls top m c → All (λ m. Within (smallest P) m n) (runs P c)
-  within n m c f h k = All-from_recursion _ (runs P c) (All-weaker (λ m. Writes m c) (λ m. Within (smallest P) m n) (λ m g x w. f x (g x w)) (runs P c) (runs_writes m c h k))
+  within n m c f h k = All-weaker (λ m. Writes m c) (λ m. Within (smallest P) m n) (λ m g x w. f x (g x w)) (runs P c) (All-from_recursion _ (runs P c) (runs_writes m c h k))
 
   abbrev Inside : ℕ → Commands → Type 0
   Inside n cs = (x : ℕ) → writes_commands P env cs x ≡ true → smallest P n x ≡ true

@@ -1,8 +1,7 @@
 -- Each block of a package stands at its number.
 use Rattle.std.proofs.Common.{◌≡◌, ℕ, zero, suc, ◌+◌, ◌<◌, ◌≤◌, true, eqb, leb, ltb, List, [], ◌∷◌, ◌++◌, length, get_or, sym, refl, ap, ◌∙◌, subst, append_assoc, arith, length-append, length-take}
 use Rattle.std.specs.List.{All, AllByRecursion}
-use Rattle.std.proofs.ByRecursion as ByRecursion
-use Rattle.std.proofs.lemmas.List.Elements.{All-nil, All-cons, All-get_or, All-from_get_or, All-weaker}
+use Rattle.std.proofs.lemmas.List.Elements.{All-nil, All-cons, All-get_or, All-from_get_or, All-from_recursion, recursion_from_All, All-weaker}
 use Rattle.std.proofs.Math.Seq.{get_or-append_seam}
 use Rattle.std.proofs.lemmas.Bool.{ltb-true, eqb-true, and_parts, false≢true}
 use Rattle.layout.specs.declared.Procedure.{Procedure}
@@ -14,7 +13,7 @@ use Rattle.layout.specs.Limits as limits
 use Rattle.layout.specs.Limits.{KeepsCommands, KeepsBlock}
 use Rattle.layout.specs.Declarations.{Declaration, Contents, places, heights}
 use Rattle.layout.specs.Packages.{Keeps, encode}
-use Rattle.layout.specs.Accepted.{below, LawfulProcedures, Lawful}
+use Rattle.layout.specs.Accepted.{below, LawfulProcedures, HoldsCells, Lawful}
 use Rattle.layout.specs.Program.{Program, program, body, table, no_block, no_table}
 use Rattle.layout.proofs.Lawful.{accepted_lawful_lem}
 use Rattle.oracle_laws.specs.Blocks.{number, inside, inside_commands, entered, entered_all, blocks, block}
@@ -227,10 +226,10 @@ module _ (ds : List Declaration) (kept : Keeps ds) where
   pub calls_block : (n : ℕ) → EveryBlock (Calls (length P.bodies)) (block P n)
   calls_block n =
       every_block (Calls (length P.bodies)) P.bodies (All-from_get_or (EveryBlock (Calls (length P.bodies))) P.bodies no_block (λ p l.
-      weaker (Calls p) (Calls (length P.bodies)) (λ m c h. ByRecursion.All-weaker (λ q. q < p) (λ q. q < length P.bodies) (λ q i. omega arith) (calls c) h) (body P p) (calls_body p))) n
+      weaker (Calls p) (Calls (length P.bodies)) (λ m c h. recursion_from_All _ (calls c) (All-weaker (λ q. q < p) (λ q. q < length P.bodies) (λ q i. omega arith) (calls c) (All-from_recursion _ (calls c) h))) (body P p) (calls_body p))) n
 
   -- a block assigns places that are declared
   pub assigns_block : (n : ℕ) → EveryBlock (Assigns P) (block P n)
   assigns_block n =
       every_block (Assigns P) P.bodies (All-from_get_or (EveryBlock (Assigns P)) P.bodies no_block (λ p l.
-      weaker (NamesBelow P.contents p) (Assigns P) (assigns_declared P p (λ t h. (ByRecursion.All-get_or _ P.contents.tables t no_table h laws.cells).2)) (body P p) (name p))) n
+      weaker (NamesBelow P.contents p) (Assigns P) (assigns_declared P p (λ t h. (All-get_or (HoldsCells P.contents) P.contents.tables t no_table h laws.cells).2)) (body P p) (name p))) n

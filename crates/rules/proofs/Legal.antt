@@ -1,6 +1,6 @@
 -- What the commands of an accepted package assign: places that the oracle names for their block, and no inputs.
 use Rattle.std.proofs.Common.{◌≡◌, ℕ, ◌+◌, ◌<◌, ◌≤◌, true, eqb, ltb, List, length, refl, arith}
-use Rattle.std.proofs.ByRecursion.{All-get_or}
+use Rattle.std.proofs.lemmas.List.Elements.{All-get_or}
 use Rattle.std.proofs.lemmas.Bool.{eq-eqb, ltb-true, leb-true, lt-ltb, le-leb, eqb-true, and_parts, and_from, false≢true}
 use Rattle.layout.specs.declared.Table.{Table}
 use Rattle.layout.specs.Tree.{Plain, set_place, copy_place, combine_places, pick_cell, put_cell, drive_device, Command, plain_command, choose_block, loop_block, grant_block, call_procedure, Commands, no_commands, then_command, Block, numbered_block}
@@ -11,7 +11,7 @@ use Rattle.layout.specs.Limits as limits
 use Rattle.layout.specs.Limits.{KeepsCommands, KeepsBlock}
 use Rattle.layout.specs.Declarations.{Declaration}
 use Rattle.layout.specs.Packages.{Keeps, encode}
-use Rattle.layout.specs.Accepted.{below, Lawful}
+use Rattle.layout.specs.Accepted.{below, HoldsCells, Lawful}
 use Rattle.layout.specs.Program.{Program, program, body, table, no_table}
 use Rattle.layout.proofs.Lawful.{accepted_lawful_lem}
 use Rattle.oracle_laws.specs.Sets as sets
@@ -82,7 +82,7 @@ module _ (ds : List Declaration) (kept : Keeps ds) where
 
   pub cells_body : (p : ℕ) → EveryBlock (Cells (program ds)) (body (program ds) p)
   cells_body p =
-      by_procedure (program ds).contents (λ k b. EveryBlock (Cells (program ds)) b) (λ k. tt) (λ k n at b h. cells_block (program ds) k (λ t l. (All-get_or _ (program ds).contents.tables t no_table l laws.cells).1) b 0 n at h)
+      by_procedure (program ds).contents (λ k b. EveryBlock (Cells (program ds)) b) (λ k. tt) (λ k n at b h. cells_block (program ds) k (λ t l. (All-get_or (HoldsCells (program ds).contents) (program ds).contents.tables t no_table l laws.cells).1) b 0 n at h)
       (program ds).contents.procedures (program ds).bodies laws.procedures p
 
   pub fits_body : (names : Sets) → sets.Lawful (program ds) names → (p : ℕ) → EveryBlock (Fits (program ds) names) (body (program ds) p)
