@@ -36,7 +36,8 @@ pub struct Procedure {
     pub steps: u64,
 }
 
-// A block: a body, or a part that a command runs. Where it lies, and how many blocks lie inside it.
+// A block: a body, or a part that a command runs. Where it lies, and how many blocks lie inside it. A start and a length
+// stand for its bytes, as in a procedure, since a slice of the bytes cannot be kept beside the package that owns them.
 #[derive(Clone, Copy, Debug, PartialEq, Eq)]
 pub struct Span {
     pub start: usize,

@@ -18,7 +18,7 @@ use std::alloc::{AllocError, Global};
 mod bodies;
 pub mod lines;
 pub mod refusals;
-mod rows;
+pub mod rows;
 pub mod steps;
 mod texts;
 

@@ -8,7 +8,7 @@ use super::lines::{Line, Sort};
 use std::alloc::AllocError;
 
 // Adds a row for each of the items, numbered from `first` on.
-pub(crate) fn add_rows<T: Copy, R: Drop, F: Fn(usize, T) -> R>(
+pub fn add_rows<T: Copy, R: Drop, F: Fn(usize, T) -> R>(
     rows: &mut Vec<R>,
     items: &[T],
     first: usize,
@@ -26,7 +26,7 @@ pub(crate) fn add_rows<T: Copy, R: Drop, F: Fn(usize, T) -> R>(
 }
 
 // Adds a heading with the number of the items, then a line for each.
-pub(crate) fn list_sort<T: Copy, F: Fn(usize, T) -> Line>(
+pub fn list_sort<T: Copy, F: Fn(usize, T) -> Line>(
     lines: &mut Vec<Line>,
     sort: Sort,
     items: &[T],

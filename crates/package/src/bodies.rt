@@ -41,6 +41,7 @@ pub(crate) struct Cost {
     pub(crate) highest: u8,
 }
 
+// A test for each rule, under the rule's name. One test of a number against a count would leave the names to its callers.
 impl Scope<'_> {
     fn has_place(self, place: u8) -> bool
         ensures { result ≡ is_place (scope_of self.entry) place }
@@ -211,7 +212,8 @@ fn call(procedures: &[Procedure], procedure: u8) -> Cost
     }
 }
 
-// Holds the end of the block that is read; the end of the block around it comes back on every way out.
+// Holds the end of the block that is read; the end of the block around it comes back on every way out. It borrows the
+// end alone, so the end and the blocks are arguments beside each other, and no fields of one struct.
 struct EndGuard<'a> {
     end: &'a mut usize,
     outer: usize,
@@ -392,6 +394,7 @@ fn check<'a>(
     let mut rest = bytes;
     let mut steps = 0u64;
     let mut highest = 0u8;
+    // A loop and no iterator of commands: the three walks over commands each want something else of it.
     while !rest.is_empty() {
         let at = *end - rest.len();
         let (command, after) = match decode(rest) {

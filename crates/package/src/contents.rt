@@ -7,7 +7,8 @@ use layout::{Cell, Input, Procedure, Span, Table};
 use std::alloc::{AllocError, Global};
 
 // The declarations of a package by their sorts, each numbered from 0 in its order.
-// Inputs and cells stand in one row of places, the inputs first.
+// Inputs and cells stand in one row of places, the inputs first. Other crates read the fields, so contracts see them
+// through one function, `contents_of`, and no model hides them.
 #[derive(Clone, Drop)]
 pub struct Contents {
     // The frame of each party: the rights that it holds.

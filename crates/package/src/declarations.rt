@@ -20,7 +20,8 @@ pub(crate) enum Declaration<'a> {
     Entry { procedure: u8 },
 }
 
-// The byte that leads a declaration.
+// The byte that leads a declaration. The layout orders declarations by it, and it is a byte that is read next: an enum
+// of sorts would be turned from bytes and back to compare them.
 pub(crate) fn lead_of<'a>(declaration: Declaration<'a>) -> u8
     ensures { result ≡ lead (item_of declaration.entry) }
 {

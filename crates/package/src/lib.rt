@@ -27,6 +27,7 @@ fn read(heap: Global, bytes: &[u8]) -> Result<Contents, Refusal>
     let mut contents = Contents::new(heap);
     let mut rest = bytes;
     let mut latest = 0u8;
+    // The loop moves along the bytes: what may stand next depends on what has been declared.
     loop {
         let at = bytes.len() - rest.len();
         let Some((declaration, after)) = take(rest, at, latest)? else {

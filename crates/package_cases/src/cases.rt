@@ -1,5 +1,6 @@
 // The cases, read from their text.
-ghost use Rattle.std.specs.Prelude.{◌<◌, IfSome, IfErr};
+ghost use Rattle.std.specs.Prelude.{◌≡◌, ◌<◌, IfSome, IfOk, IfErr};
+ghost use Rattle.hex.specs.Hex.{decode_of};
 ghost use Rattle.package.specs.Faults.{number as number_of};
 
 use super::answer::Answer;
@@ -56,7 +57,9 @@ fn expected_of(text: &str) -> Option<Answer>
 }
 
 // The bytes that a text writes, two digits to a byte, 0 to 9 and A to F.
-fn bytes_of<'a>(heap: Global, text: &str, unreadable: Stop<'a>) -> Result<Vec<u8>, Stop<'a>> {
+fn bytes_of<'a>(heap: Global, text: &str, unreadable: Stop<'a>) -> Result<Vec<u8>, Stop<'a>>
+    ensures { IfOk result (λ bytes. decode_of text.now ≡ Ok bytes.items) }
+{
     if text.bytes().any(|byte| byte.is_ascii_lowercase()) {
         return Err(unreadable);
     }
