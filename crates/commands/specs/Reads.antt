@@ -58,3 +58,7 @@ two_blocks c l m bs = cut 8 l bs (λ y rest. cut 8 m rest (λ z after. got (choo
 -- the first n bytes and the rest, or there are not so many
 abbrev pub CutOff : ℕ → List ℕ → Result (Bor (List ℕ) × Bor (List ℕ)) Unread → Type 0
 CutOff n bs r = MatchResult r (λ p. (n ≤ length bs) × (p.0.now ≡ take n bs) × (p.1.now ≡ drop n bs)) (λ e. (e ≡ PastEnd) × (length bs < n))
+
+-- two blocks of l and of m bytes and the rest, or there are not so many
+abbrev pub CutTwo : ℕ → ℕ → List ℕ → Result (Bor (List ℕ) × Bor (List ℕ) × Bor (List ℕ)) Unread → Type 0
+CutTwo l m bs r = MatchResult r (λ p. (c : tree.Choice) → two_blocks c l m bs ≡ got (choose c p.0.now p.1.now) p.2.now) (λ e. (c : tree.Choice) → two_blocks c l m bs ≡ bad (unread e))

@@ -6,7 +6,7 @@ ghost use Rattle.layout.specs.Bytes.{be16, be64};
 ghost use Rattle.layout.specs.Front.{front};
 ghost use Rattle.layout.specs.Layout.{loop as flat_loop, grant as flat_grant};
 ghost use Rattle.layout.specs.Tree.{when_place, try_frame};
-ghost use Rattle.commands.specs.Reads.{Reads, ReadsPlain, CutOff, one_block, two_blocks};
+ghost use Rattle.commands.specs.Reads.{Reads, ReadsPlain, CutOff, CutTwo, one_block, two_blocks};
 
 use std::fmt;
 
@@ -164,6 +164,19 @@ fn decode_plain<'a>(bytes: &'a [u8]) -> Result<(Plain, &'a [u8]), Unread>
     }
 }
 
+// Cuts two blocks off the front, the lengths of which stand in these bytes.
+fn cut_two<'a>(
+    bytes: &'a [u8],
+    l: [u8; 2],
+    m: [u8; 2],
+) -> Result<(&'a [u8], &'a [u8], &'a [u8]), Unread>
+    ensures { CutTwo (be16 l 0) (be16 m 0) bytes.now result }
+{
+    let (first, rest) = cut(bytes, l)?;
+    let (second, rest) = cut(rest, m)?;
+    Ok((first, second, rest))
+}
+
 // A WHEN, the lengths of whose two blocks stand in these bytes.
 fn when<'a>(
     place: u8,
@@ -173,8 +186,7 @@ fn when<'a>(
 ) -> Result<(Command<'a>, &'a [u8]), Unread>
     ensures { Reads (two_blocks (when_place place) (be16 l 0) (be16 m 0) rest.now) result }
 {
-    let (first, rest) = cut(rest, l)?;
-    let (second, rest) = cut(rest, m)?;
+    let (first, second, rest) = cut_two(rest, l, m)?;
     let command = Command::When {
         place,
         first,
@@ -193,8 +205,7 @@ fn attempt<'a>(
 ) -> Result<(Command<'a>, &'a [u8]), Unread>
     ensures { Reads (two_blocks (try_frame (be64 frame 0) place) (be16 l 0) (be16 m 0) rest.now) result }
 {
-    let (first, rest) = cut(rest, l)?;
-    let (second, rest) = cut(rest, m)?;
+    let (first, second, rest) = cut_two(rest, l, m)?;
     let command = Command::Try {
         frame: u64::from_be_bytes(frame),
         place,

@@ -14,7 +14,8 @@ use commands::{Command, Plain, decode};
 use layout::{Procedure, Span};
 
 // What the commands of a body may name: so many places, tables and devices, and the procedures declared before it.
-// The places below `inputs` are inputs.
+// The places below `inputs` are inputs. Contracts see it through one function, `scope_of`, since a model would forget the
+// procedures and forbid the copy.
 #[derive(Clone, Copy)]
 pub(crate) struct Scope<'a> {
     pub(crate) inputs: usize,

@@ -34,7 +34,7 @@ fn holds_cells(table: Table, contents: &Contents) -> bool
 {
     let first = usize::from(table.first);
     let places = contents.places();
-    contents.inputs.len() <= first && first < places && first + usize::from(table.length) <= places
+    (contents.inputs.len()..places).contains(&first) && first + usize::from(table.length) <= places
 }
 
 // Whether every number that a declaration uses is declared.

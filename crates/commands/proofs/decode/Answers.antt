@@ -1,6 +1,5 @@
-use Rattle.std.proofs.Common.{refl, ◌∙◌, arith, rules}
-use Rattle.std.proofs.lemmas.Result.{err_from_is_err_and}
-use Rattle.commands.proofs.Rest.{rest_all, front_at, short_block, some_byte, call_got, loop_got, grant_got, when_got, try_got, reads_as}
+use Rattle.std.proofs.Common.{refl, ◌∙◌, rules}
+use Rattle.commands.proofs.Rest.{rest_all, front_at, short_block, call_got, loop_got, grant_got, when_got, try_got, reads_as}
 use Rattle.commands.proofs.decode.Goals as goal
 
 pub returns-in-11 : goal.returns-in-11
