@@ -1,4 +1,5 @@
 pub mod Faults
+pub mod Once
 pub mod Holds
 pub mod Walks
 pub mod Items

@@ -3,6 +3,7 @@ ghost use Rattle.std.specs.Prelude.{◌≡◌, true, IfOk};
 ghost use Rattle.layout.specs.Bytes.{are_bytes};
 ghost use Rattle.layout.specs.Packages.{accepts, held};
 ghost use Rattle.package.specs.Declares.{contents_of};
+ghost use Rattle.package.specs.Once.{same_contents};
 
 use super::contents::Contents;
 use std::alloc::{AllocError, Global};
@@ -14,7 +15,7 @@ pub struct Package {
     pub(crate) contents: Contents,
     ghost octets: { are_bytes bytes.items ≡ true },
     ghost accepted: { accepts bytes.items ≡ true },
-    ghost declares: { ∥ contents_of contents ≡ held bytes.items ∥₁ },
+    ghost declares: { contents_of contents ≡ held bytes.items } by { same_contents (contents_of contents) (held bytes.items) },
 }
 
 impl Package {

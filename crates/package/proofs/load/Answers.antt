@@ -23,7 +23,7 @@ invariant_of-result c =
     record {
       octets = ap are_bytes copy ∙ bytes_test c.args.bytes.now (bytes_all c.args.bytes.now c.type_inv.bytes);
       accepted = ap accepts copy ∙ a;
-      declares = ∣ d ∙ ap held (sym copy) ∣₁;
+      declares = d ∙ ap held (sym copy);
     }
 
 pub returns : goal.returns
