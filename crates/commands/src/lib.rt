@@ -1,7 +1,7 @@
 // Commands, taken off the front of a block.
 #![tactic(auto)]
 
-ghost use Rattle.std.specs.Prelude.{◌≡◌, ℕ, ◌+◌, ◌-◌, ◌*◌, ◌<◌, ◌≤◌, length, MatchResult, slice_index};
+ghost use Rattle.std.specs.Prelude.{◌≡◌, ℕ, ◌-◌, ◌<◌, ◌≤◌, length, MatchResult, slice_index};
 ghost use Rattle.layout.specs.Bytes.{be16, be64};
 ghost use Rattle.layout.specs.Front.{front};
 ghost use Rattle.layout.specs.Layout.{loop as flat_loop, grant as flat_grant};
@@ -103,7 +103,7 @@ pub enum Unread {
 }
 
 // Cuts a block off the front, whose length stands in these two bytes.
-fn cut<'a>(bytes: &'a [u8], length: [u8; 2]) -> Result<(&'a [u8], &'a [u8]), Unread>
+pub fn cut<'a>(bytes: &'a [u8], length: [u8; 2]) -> Result<(&'a [u8], &'a [u8]), Unread>
     ensures { CutOff (be16 «length» 0) bytes.now result }
 {
     let length = usize::from(u16::from_be_bytes(length));
@@ -122,7 +122,7 @@ fn combine(operation: Operation, target: u8, left: u8, right: u8) -> Plain
     }
 }
 
-// The plain command at the front of a block, which a byte below 0x0B leads, and the bytes behind it.
+// The plain command at the front of a block, which no byte from 0x0B to 0x0F leads, and the bytes behind it.
 fn decode_plain<'a>(bytes: &'a [u8]) -> Result<(Plain, &'a [u8]), Unread>
     ensures { (0x0B ≤ slice_index bytes.now 0 → slice_index bytes.now 0 ≤ 0x0F → ⊥) → ReadsPlain (front bytes.now) result }
 {

@@ -102,11 +102,11 @@ fn declared<'a, 'b>(command: Command<'a>, scope: Scope<'b>) -> bool
 {
     match command {
         Command::Plain(plain) => plain_declared(plain, scope),
-        Command::When { place, .. } => scope.has_place(place),
-        Command::Loop { place, .. } => scope.has_place(place),
+        Command::When { place, .. } | Command::Loop { place, .. } | Command::Try { place, .. } => {
+            scope.has_place(place)
+        }
         Command::Grant { .. } => true,
         Command::Call { procedure } => usize::from(procedure) < scope.procedures.len(),
-        Command::Try { place, .. } => scope.has_place(place),
     }
 }
 
@@ -115,12 +115,11 @@ fn plain_spares_inputs<'a>(plain: Plain, scope: Scope<'a>) -> bool
     ensures { result ≡ plain_targets (scope_of scope.entry) (plain_of plain) }
 {
     match plain {
-        Plain::Set { target, .. } => scope.is_no_input(target),
-        Plain::Copy { target, .. } => scope.is_no_input(target),
-        Plain::Combine { target, .. } => scope.is_no_input(target),
-        Plain::Pick { target, .. } => scope.is_no_input(target),
-        Plain::Put { .. } => true,
-        Plain::Drive { .. } => true,
+        Plain::Set { target, .. }
+        | Plain::Copy { target, .. }
+        | Plain::Combine { target, .. }
+        | Plain::Pick { target, .. } => scope.is_no_input(target),
+        Plain::Put { .. } | Plain::Drive { .. } => true,
     }
 }
 
@@ -159,11 +158,8 @@ fn reaches<'a, 'b>(command: Command<'a>, scope: Scope<'b>, depth: u8) -> bool
 {
     match command {
         Command::Plain(_) => true,
-        Command::When { .. } => depth < 8,
-        Command::Loop { .. } => depth < 8,
-        Command::Grant { .. } => depth < 8,
         Command::Call { procedure } => height(scope.procedures, procedure) < 8,
-        Command::Try { .. } => depth < 8,
+        _ => depth < 8,
     }
 }
 
@@ -172,12 +168,9 @@ fn count<'a>(command: Command<'a>) -> usize
     ensures { result ≡ block_count (flat_of command.entry) }
 {
     match command {
-        Command::Plain(_) => 0,
-        Command::When { .. } => 2,
-        Command::Loop { .. } => 1,
-        Command::Grant { .. } => 1,
-        Command::Call { .. } => 0,
-        Command::Try { .. } => 2,
+        Command::Plain(_) | Command::Call { .. } => 0,
+        Command::Loop { .. } | Command::Grant { .. } => 1,
+        Command::When { .. } | Command::Try { .. } => 2,
     }
 }
 

@@ -1,10 +1,10 @@
 // What has been declared.
-ghost use Rattle.std.specs.Prelude.{◌≡◌, ◌+◌, IfOk, vec_len};
+ghost use Rattle.std.specs.Prelude.{◌≡◌, ◌+◌, vec_len};
 ghost use Rattle.layout.specs.Declarations.{nothing};
 ghost use Rattle.package.specs.Declares.{contents_of};
 
 use layout::{Cell, Input, Procedure, Span, Table};
-use std::alloc::{AllocError, Global};
+use std::alloc::Global;
 
 // The declarations of a package by their sorts, each numbered from 0 in its order.
 // Inputs and cells stand in one row of places, the inputs first. Other crates read the fields, so contracts see them

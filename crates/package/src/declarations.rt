@@ -6,6 +6,7 @@ ghost use Rattle.layout.specs.Packages.{leads as may_lead};
 ghost use Rattle.package.specs.Items.{ReadsItem, ReadsProcedure, Takes, item_of};
 
 use super::refusal::{Fault, Refusal};
+use commands::cut;
 use layout::{Cell, Input, Table};
 
 // A declaration, whose body is a part of the package.
@@ -40,8 +41,7 @@ pub(crate) fn lead_of<'a>(declaration: Declaration<'a>) -> u8
 fn procedure<'a>(party: u8, length: [u8; 2], rest: &'a [u8]) -> Option<(Declaration<'a>, &'a [u8])>
     ensures { ReadsProcedure party (be16 «length» 0) rest.now result }
 {
-    let length = usize::from(u16::from_be_bytes(length));
-    let (body, rest) = rest.split_at_checked(length)?;
+    let (body, rest) = cut(rest, length).ok()?;
     Some((Declaration::Procedure { party, body }, rest))
 }
 

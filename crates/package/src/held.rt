@@ -1,12 +1,12 @@
 // An accepted package.
-ghost use Rattle.std.specs.Prelude.{◌≡◌, true, IfOk};
+ghost use Rattle.std.specs.Prelude.{◌≡◌, true};
 ghost use Rattle.layout.specs.Bytes.{are_bytes};
 ghost use Rattle.layout.specs.Packages.{accepts, held};
 ghost use Rattle.package.specs.Declares.{contents_of};
 ghost use Rattle.package.specs.Once.{same_contents};
 
 use super::contents::Contents;
-use std::alloc::{AllocError, Global};
+use std::alloc::AllocError;
 
 // The bytes of a package that was accepted, and what they declare. Only loading makes one.
 #[derive(Drop)]
@@ -34,7 +34,7 @@ impl Package {
     }
 }
 
-// The same package once more, with bytes and contents of its own.
+// The same package once more, with bytes and contents of its own. It is not derived, since there are ghost fields.
 impl Clone for Package {
     ghost is_clone = { λ p q. (q.bytes.items ≡ p.bytes.items) × (contents_of q.contents ≡ contents_of p.contents) };
 

@@ -18,8 +18,7 @@ fn has_room<'a>(declaration: Declaration<'a>, contents: &Contents) -> bool
 {
     match declaration {
         Declaration::Party { .. } => contents.parties.len() < 16,
-        Declaration::Input(_) => contents.places() < 128,
-        Declaration::Cell(_) => contents.places() < 128,
+        Declaration::Input(_) | Declaration::Cell(_) => contents.places() < 128,
         Declaration::Table(_) => contents.tables.len() < 16,
         Declaration::Device { .. } => contents.needs.len() < 32,
         Declaration::Procedure { .. } => contents.procedures.len() < 32
@@ -42,11 +41,9 @@ fn is_known<'a>(declaration: Declaration<'a>, contents: &Contents) -> bool
     ensures { result ≡ known (contents_of contents.now) (item_of declaration.entry) }
 {
     match declaration {
-        Declaration::Party { .. } => true,
+        Declaration::Party { .. } | Declaration::Cell(_) | Declaration::Device { .. } => true,
         Declaration::Input(input) => usize::from(input.party) < contents.parties.len(),
-        Declaration::Cell(_) => true,
         Declaration::Table(table) => holds_cells(table, contents),
-        Declaration::Device { .. } => true,
         Declaration::Procedure { party, .. } => usize::from(party) < contents.parties.len(),
         Declaration::Entry { procedure } => usize::from(procedure) < contents.procedures.len(),
     }
