@@ -10,8 +10,8 @@ use layout::Procedure;
 use package::parts::part;
 use std::alloc::AllocError;
 
-// The lines of bodies as they are listed: how many places are inputs, by which a place has its name, and how many
-// blocks are listed, which is the number of the next.
+// The listing of bodies as far as it has come: its lines; how many places are inputs, by which a place has its name; and
+// how many blocks are listed, which is the number of the next.
 #[derive(Drop)]
 pub(crate) struct BodyLines {
     lines: Vec<Line>,
@@ -63,7 +63,7 @@ impl BodyLines {
     {
         let mut rest = bytes;
         let mut offset = at;
-        // A loop and no iterator of commands: the three walks over commands each want something else of it.
+        // The loop moves along the bytes: an iterator would answer each command with its offset, which is counted here.
         while let Ok((command, after)) = decode(rest) {
             self.list_command(command, offset, depth)?;
             offset = offset.saturating_add(rest.len().saturating_sub(after.len()));

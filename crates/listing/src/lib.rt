@@ -44,7 +44,7 @@ fn list_places(lines: &mut Vec<Line>, contents: &Contents) -> Result<(), AllocEr
     )
 }
 
-// Lists the procedures with their bodies.
+// Lists the procedures with their bodies. The lines go in and come back, since the listing of bodies holds them.
 fn list_bodies(mut lines: Vec<Line>, held: &Package) -> Result<Vec<Line>, AllocError>
     ensures { IfOk result (λ after. after.items ≡ lines.items ++ body_lines (contents_of (tree_of held.now)) (bodies_of (tree_of held.now))) }
 {

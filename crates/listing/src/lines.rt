@@ -13,7 +13,7 @@ pub enum Sort {
     Entries,
 }
 
-// What a command does, its blocks apart. No `Command` over another type of block: it has none to name.
+// What a command does, its blocks apart. A `Command<()>` would say `first: ()` and `second: ()`, which no line shows.
 #[derive(Clone, Copy, Debug, PartialEq, Eq)]
 pub enum Action {
     Plain(Plain),

@@ -25,7 +25,7 @@ fn in_words(fault: Fault) -> &'static str
     }
 }
 
-// The cause of a refusal, in one sentence.
+// The cause of a refusal, in one sentence. `Display` would only write it: here the sentence is what is answered.
 pub fn cause(refusal: Refusal) -> &'static str
     ensures { result.now ≡ cause_text refusal }
 {

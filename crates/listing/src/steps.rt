@@ -3,6 +3,7 @@ ghost use Rattle.std.specs.Prelude.{◌≡◌, IfOk};
 ghost use Rattle.listing.specs.Steps.{told_steps};
 ghost use Rattle.package.specs.Declares.{contents_of};
 
+use super::lines::Sort;
 use super::rows::add_rows;
 use layout::Procedure;
 use package::contents::Contents;
@@ -16,12 +17,9 @@ use std::fmt;
 pub enum Step {
     Reading,
     Read { bytes: usize },
-    Parties { count: usize },
+    Declared { sort: Sort, count: usize },
     Places { inputs: usize, cells: usize },
-    Tables { count: usize },
-    Devices { count: usize },
     Checked { number: usize, procedure: Procedure },
-    Entries { count: usize },
     Accepted { blocks: usize },
     Refused(Refusal),
 }
@@ -31,10 +29,8 @@ impl fmt::Display for Step {
         match *self {
             Step::Reading => f.write_str("reading a package from standard input"),
             Step::Read { bytes } => write!(f, "read {bytes} bytes"),
-            Step::Parties { count } => write!(f, "parties: {count}"),
+            Step::Declared { sort, count } => write!(f, "{sort}: {count}"),
             Step::Places { inputs, cells } => write!(f, "inputs: {inputs}, cells: {cells}"),
-            Step::Tables { count } => write!(f, "tables: {count}"),
-            Step::Devices { count } => write!(f, "devices: {count}"),
             Step::Checked { number, procedure } => {
                 let (height, steps) = (procedure.height, procedure.steps);
                 write!(
@@ -42,7 +38,6 @@ impl fmt::Display for Step {
                     "procedure {number} checked: height {height}, at most {steps} steps"
                 )
             }
-            Step::Entries { count } => write!(f, "entries: {count}"),
             Step::Accepted { blocks } => write!(f, "accepted, with {blocks} blocks"),
             Step::Refused(refusal) => {
                 let (number, offset) = (refusal.number(), refusal.offset());
@@ -57,18 +52,21 @@ pub fn steps(heap: Global, contents: &Contents) -> Result<Vec<Step>, AllocError>
     ensures { IfOk result (λ v. v.items ≡ told_steps (contents_of contents.now)) }
 {
     let mut told = vec![in heap;
-        Step::Parties {
-            count: contents.parties.len()
+        Step::Declared {
+            sort: Sort::Parties,
+            count: contents.parties.len(),
         },
         Step::Places {
             inputs: contents.inputs.len(),
             cells: contents.cells.len(),
         },
-        Step::Tables {
-            count: contents.tables.len()
+        Step::Declared {
+            sort: Sort::Tables,
+            count: contents.tables.len(),
         },
-        Step::Devices {
-            count: contents.needs.len()
+        Step::Declared {
+            sort: Sort::Devices,
+            count: contents.needs.len(),
         },
     ]?;
     add_rows(
@@ -77,7 +75,8 @@ pub fn steps(heap: Global, contents: &Contents) -> Result<Vec<Step>, AllocError>
         0,
         |number, procedure| Step::Checked { number, procedure },
     )?;
-    told.push(Step::Entries {
+    told.push(Step::Declared {
+        sort: Sort::Entries,
         count: contents.entries.len(),
     })?;
     told.push(Step::Accepted {

@@ -50,7 +50,7 @@ impl<'a> Question<'a> {
             .map_or(&[], |found| part(held.bytes(), found.start, found.length))
     }
 
-    // Whether the place is a cell of the table.
+    // Whether the place is a cell of the table of this number.
     fn is_cell_of(&self, table: u8) -> bool
         ensures { result ≡ cell_of (table_of (asked self.now) table) self.now.place }
     {
@@ -76,8 +76,8 @@ impl<'a> Question<'a> {
         }
     }
 
-    // Whether one of the commands of these bytes may write it. The loop moves along the bytes: an iterator of commands
-    // would serve it alone, since the two other readers of commands need offsets and the refusal too.
+    // Whether one of the commands of these bytes may write the place. The loop moves along the bytes, up to the first
+    // that may: an iterator of commands would have this loop inside it, and `any` around it.
     #[cycle(may_write)]
     fn any_writes(&self, bytes: &[u8]) -> bool
         ensures { TellsAll self.now bytes.now result }
@@ -92,7 +92,7 @@ impl<'a> Question<'a> {
         false
     }
 
-    // Whether one of the two blocks of a choice may write it.
+    // Whether one of the two blocks of a choice may write the place.
     #[cycle(may_write)]
     fn either_writes(&self, first: &[u8], second: &[u8]) -> bool
         ensures { TellsTwo self.now first.now second.now result }
@@ -100,7 +100,7 @@ impl<'a> Question<'a> {
         self.any_writes(first) || self.any_writes(second)
     }
 
-    // Whether a command may write it, with its blocks and the body that it calls.
+    // Whether a command may write the place, with its blocks and the body that it calls.
     #[cycle(may_write)]
     fn writes(&self, command: Command<'_>) -> bool
         ensures { TellsOne self.now (flat_of command.entry) result }

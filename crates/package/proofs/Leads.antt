@@ -1,5 +1,5 @@
 -- What stands at the front of a package, by its first byte.
-use Rattle.std.proofs.Common.{◌≡◌, ℕ, suc, ◌+◌, ◌<◌, ◌≤◌, true, false, leb, List, [], ◌∷◌, ◌++◌, length, get_or, drop, Some, None, Option, refl, ap, ◌∙◌, subst, arith, w8, Fits, Bor}
+use Rattle.std.proofs.Common.{◌≡◌, ℕ, suc, ◌+◌, ◌<◌, ◌≤◌, true, false, leb, List, [], ◌∷◌, ◌++◌, length, get_or, drop, Some, None, Option, sym, refl, ap, ◌∙◌, subst, arith, w8, Fits, Bor}
 use Rattle.std.proofs.lemmas.Bool.{cond-false, ne_eqb, leb-true, le-leb, lt-leb, and_parts}
 use Rattle.layout.specs.Bytes.{be16}
 use Rattle.layout.specs.Front.{Front, got, bad, cut}
@@ -76,6 +76,7 @@ pub fronted : (bs : List ℕ) (at latest : ℕ) (i : Item) (after : List ℕ) �
 fronted bs at latest i after some h o t small e =
     let whole = subst (True item_bytes bs) e (lead_true bs (bytes_all bs small) (get_or bs 0 0) refl) in
     record {
+      led = sym (first bs i after whole);
       order = rw (first bs i after whole) o;
       front = e;
       reads = λ f s. on_item f s at latest bs some h o t ∙ ap (next_item (read_all f) s at (at + length bs)) e;

@@ -30,6 +30,7 @@ ReadsProcedure p n bs r =
 
 -- a declaration at the front: it is behind what came before, and the reading goes on behind it
 pub record Fronted (bs : List ℕ) (at latest : ℕ) (i : Item) (after : List ℕ) : Type 0 where
+  pub led : slice_index bs 0 ≡ lead i
   pub order : latest ≤ lead i
   pub front : by_lead (slice_index bs 0) bs ≡ got i after
   pub reads : (f : ℕ) (s : Contents) → read_all (suc f) s at latest bs ≡ next_item (read_all f) s at (at + length bs) (got i after)

@@ -42,7 +42,7 @@ pub(crate) struct Cost {
     pub(crate) highest: u8,
 }
 
-// A test for each rule, under the rule's name. One test of a number against a count would leave the names to its callers.
+// A test for each rule, under the rule's name: one test of a number against a count would say less where it is called.
 impl Scope<'_> {
     fn has_place(self, place: u8) -> bool
         ensures { result ≡ is_place (scope_of self.entry) place }
@@ -207,7 +207,7 @@ fn call(procedures: &[Procedure], procedure: u8) -> Cost
 }
 
 // Holds the end of the block that is read; the end of the block around it comes back on every way out. It borrows the
-// end alone, so the end and the blocks are arguments beside each other, and no fields of one struct.
+// end alone, so the end, the nest and the blocks are arguments beside each other, and what ties them is in each contract.
 struct EndGuard<'a> {
     end: &'a mut usize,
     outer: usize,
@@ -388,7 +388,7 @@ fn check<'a>(
     let mut rest = bytes;
     let mut steps = 0u64;
     let mut highest = 0u8;
-    // A loop and no iterator of commands: the three walks over commands each want something else of it.
+    // The loop moves along the bytes: an iterator would have to answer each command with its offset, and the first refusal.
     while !rest.is_empty() {
         let at = *end - rest.len();
         let (command, after) = match decode(rest) {

@@ -1,7 +1,6 @@
 // Declarations, taken off the front of a package.
 ghost use Rattle.std.specs.Prelude.{◌≡◌, ℕ, ◌+◌, ◌-◌, ◌^◌, ◌<◌, ◌≤◌, length, slice_index};
 ghost use Rattle.layout.specs.Bytes.{be16};
-ghost use Rattle.layout.specs.Declarations.{lead};
 ghost use Rattle.layout.specs.Packages.{leads as may_lead};
 ghost use Rattle.package.specs.Items.{ReadsItem, ReadsProcedure, Takes, item_of};
 
@@ -19,22 +18,6 @@ pub(crate) enum Declaration<'a> {
     Device { need: u64 },
     Procedure { party: u8, body: &'a [u8] },
     Entry { procedure: u8 },
-}
-
-// The byte that leads a declaration. The layout orders declarations by it, and it is a byte that is read next: an enum
-// of sorts would be turned from bytes and back to compare them.
-pub(crate) fn lead_of<'a>(declaration: Declaration<'a>) -> u8
-    ensures { result ≡ lead (item_of declaration.entry) }
-{
-    match declaration {
-        Declaration::Party { .. } => 0x81,
-        Declaration::Input(_) => 0x82,
-        Declaration::Cell(_) => 0x83,
-        Declaration::Table(_) => 0x84,
-        Declaration::Device { .. } => 0x85,
-        Declaration::Procedure { .. } => 0x86,
-        Declaration::Entry { .. } => 0x87,
-    }
 }
 
 // A procedure, the length of whose body stands in these two bytes; none where the bytes behind them are cut short.
@@ -98,8 +81,9 @@ fn leads(byte: u8) -> bool
     (0x81..=0x88).contains(&byte)
 }
 
-// The declaration at the front of the bytes from the offset `at` on, behind one that `latest` led, and the bytes behind
-// it; none where FINISH stands there.
+// The declaration at the front of the bytes from the offset `at` on, behind one that the byte `latest` led, and the bytes
+// behind it; none where FINISH stands there. The layout orders declarations by their leading bytes, so these are compared
+// as they are: an enum of sorts would be made of both only to compare it.
 pub(crate) fn take<'a>(
     bytes: &'a [u8],
     at: usize,

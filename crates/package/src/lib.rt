@@ -5,7 +5,7 @@ ghost use Rattle.std.specs.Prelude.{◌≡◌, ℕ, ◌+◌, ◌≤◌, length};
 ghost use Rattle.package.specs.Loads.{Loads, Exactly, Keeping, ReadsContents};
 
 use contents::Contents;
-use declarations::{lead_of, take};
+use declarations::take;
 use held::Package;
 use loading::declare;
 use refusal::{Fault, Refusal};
@@ -26,6 +26,7 @@ fn read(heap: Global, bytes: &[u8]) -> Result<Contents, Refusal>
 {
     let mut contents = Contents::new(heap);
     let mut rest = bytes;
+    // Before the first declaration, a byte below every leading one.
     let mut latest = 0u8;
     // The loop moves along the bytes: what may stand next depends on what has been declared.
     loop {
@@ -34,7 +35,7 @@ fn read(heap: Global, bytes: &[u8]) -> Result<Contents, Refusal>
             return Ok(contents);
         };
         declare(&mut contents, declaration, at)?;
-        latest = lead_of(declaration);
+        latest = rest[0];
         rest = after;
     }
 }

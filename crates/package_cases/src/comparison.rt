@@ -20,9 +20,7 @@ fn compare<'a>(heap: Global, case: &Case<'a>) -> Result<(), Stop<'a>> {
 
 // Compares every case of these bytes up to the first that differs, and answers how many there are.
 pub(crate) fn compare_all<'a>(heap: Global, input: &'a [u8]) -> Result<usize, Stop<'a>> {
-    let Ok(text) = from_utf8(input) else {
-        return Err(Stop::NoText);
-    };
+    let text = from_utf8(input).map_err(|_| Stop::NoText)?;
     for part in text.split_terminator("\n\n") {
         let case = case_of(heap, part)?;
         compare(heap, &case)?;

@@ -66,8 +66,7 @@ pub enum Refusal {
 }
 
 // What a call answers. A cycle answers its steps and the drives that it refused, a read the value and the frame of a
-// place, a show the command and the count of a device: pairs, since a call of a controller returns them, and no place
-// or device of its own.
+// place, a show the command and the count of a device: figures that were shown, and no place or device that is held.
 #[derive(Clone, Copy, Debug, PartialEq, Eq)]
 pub enum Answer {
     Post(Result<(), Refusal>),

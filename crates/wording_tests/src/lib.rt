@@ -7,6 +7,9 @@ mod tests {
     use listing::refusals::cause;
     use listing::steps::{Step, steps};
     use package::load;
+    use std::alloc::Global;
+    use std::fmt::Display;
+    use std::process::Abort;
     use std::test::Fail;
     use wording::excerpts::Excerpt;
     use wording::reach::{HeldText, Holder};
@@ -50,34 +53,36 @@ mod tests {
         "accepted, with 3 blocks",
     ];
 
-    #[test]
-    fn a_package_is_listed(rt: HostRuntime) -> Result<(), Fail> {
-        let heap = rt.alloc();
-        let Ok(held) = load(heap, &SMALL) else {
-            return Err(Fail::new("refused"));
-        };
-        let lines = listing(heap, &held)?;
-        assert_eq!(rt; lines.len(), 21);
-        for (line, expected) in lines.iter().zip(LISTED.iter()) {
-            let text = line.to_string(heap)?;
+    // Each of these is shown by the text in its place, as far as there are texts.
+    fn check_texts<T: Display>(
+        rt: &impl Abort,
+        heap: Global,
+        shown: &[T],
+        texts: &[&str],
+    ) -> Result<(), Fail> {
+        for (item, expected) in shown.iter().zip(texts.iter()) {
+            let text = item.to_string(heap)?;
             assert!(rt; text.as_str() == *expected);
         }
         Ok(())
     }
 
     #[test]
+    fn a_package_is_listed(rt: HostRuntime) -> Result<(), Fail> {
+        let heap = rt.alloc();
+        let held = load(heap, &SMALL)?;
+        let lines = listing(heap, &held)?;
+        assert_eq!(rt; lines.len(), 21);
+        check_texts(&rt, heap, &lines, &LISTED)
+    }
+
+    #[test]
     fn the_steps_are_told(rt: HostRuntime) -> Result<(), Fail> {
         let heap = rt.alloc();
-        let Ok(held) = load(heap, &SMALL) else {
-            return Err(Fail::new("refused"));
-        };
+        let held = load(heap, &SMALL)?;
         let told = steps(heap, held.contents())?;
         assert_eq!(rt; told.len(), 7);
-        for (step, expected) in told.iter().zip(TOLD.iter()) {
-            let text = step.to_string(heap)?;
-            assert!(rt; text.as_str() == *expected);
-        }
-        Ok(())
+        check_texts(&rt, heap, &told, &TOLD)
     }
 
     #[test]

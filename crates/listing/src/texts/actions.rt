@@ -46,7 +46,7 @@ impl fmt::Display for Named<Place> {
     }
 }
 
-// The sign that stands between the places that an operation combines. Display, which is one, gives its name.
+// The sign between the places that an operation combines: a second text, since its `Display` is the name.
 fn sign(operation: Operation) -> &'static str {
     match operation {
         Operation::Add => "+",

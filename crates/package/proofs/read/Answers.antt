@@ -35,5 +35,5 @@ loop-contents-preserved c =
     let t = taken _ _ _ _ _ _ c.in-Some.is c.in_ok-declaration.ensures in
     let l = off c.loop-contents.invariant.1 t in (
       omega (arith, c.loop-contents.invariant.0),
-      going_on c.loop-contents.invariant.1 t _ _ _ (omega (arith, c.loop-contents.invariant.0)) c.lead_of-latest.ensures c.in_ok-declare.ensures,
+      going_on c.loop-contents.invariant.1 t _ _ _ (omega (arith, c.loop-contents.invariant.0)) t.led c.in_ok-declare.ensures,
     )
