@@ -1,5 +1,5 @@
 -- What a new controller holds, and what each call answers and leaves.
-use Rattle.std.specs.Prelude.{ℕ, Bool, cond, ◌&&◌, List, [], ◌∷◌, ◌++◌, map, length, get_or, is_ok, None, Ok, Err, Option, Result, ◌==◌, nat_lt, slice_index, slice_index_or, slice_set}
+use Rattle.std.specs.Prelude.{ℕ, Bool, cond, ◌&&◌, List, [], ◌∷◌, ◌++◌, map, length, get_or, is_ok, Some, None, Ok, Err, Option, Result, ◌==◌, nat_lt, slice_index, slice_index_or, slice_set}
 use Rattle.layout.specs.declared.Input.{Input}
 use Rattle.layout.specs.declared.Cell.{Cell}
 use Rattle.layout.specs.Declarations.{places}
@@ -113,6 +113,10 @@ cycle A P h = run_entries A P P.contents.entries (started h)
 abbrev pub cycle_answer : State → ℕ × ℕ
 cycle_answer s = (s.steps, s.refused)
 
+-- the first refused drive of the latest cycle, or none
+abbrev pub trail_answer : Held → Option Trail
+trail_answer h = h.trail
+
 -- ---- calls
 
 module _ (A : Assembly) (P : Program) where
@@ -167,3 +171,8 @@ numbers (answer.Post r) = told (λ u. []) r
 numbers (answer.Cycle p) = pair p
 numbers (answer.Read r) = told pair r
 numbers (answer.Show r) = told pair r
+
+-- the numbers of a trail; none where there is none
+abbrev pub trail_numbers : Option Trail → List ℕ
+trail_numbers None = []
+trail_numbers (Some t) = t.procedure ∷ t.offset ∷ t.device ∷ cause_number t.cause ∷ t.right ∷ []

@@ -13,7 +13,7 @@ use Rattle.rules.specs.declared.Call.TheVariants.{Post, Cycle, Read, Show}
 use Rattle.rules.specs.Assembly.{Assembly}
 use Rattle.rules.specs.AtHand.{by_rights, by_rights_broad, by_levels}
 use Rattle.rules.specs.Running.{granted, entering, fresh}
-use Rattle.rules.specs.Calls.{new, answers, after_all, numbers}
+use Rattle.rules.specs.Calls.{new, trail_answer, answers, after_all, numbers, trail_numbers}
 
 -- ---- packages
 
@@ -95,7 +95,7 @@ abbrev pub told : (Program → Assembly) → List ℕ → List Call → List (Li
 told A bytes cs = map numbers (answers (A (load bytes)) (load bytes) cs (new (load bytes)))
 
 abbrev pub trail_after : (Program → Assembly) → List ℕ → List Call → Option Trail
-trail_after A bytes cs = (after_all (A (load bytes)) (load bytes) cs (new (load bytes))).trail
+trail_after A bytes cs = trail_answer (after_all (A (load bytes)) (load bytes) cs (new (load bytes)))
 
 -- 1: the second cycle writes cell 2 under a decision of party 1, which lacks right 0; both drives are refused
 abbrev pub Case1 : Type 0
@@ -140,6 +140,7 @@ Case8 =
     × ((granted (by_rights (load called)) (entering (by_rights (load called)) (load called) 0 (fresh (by_rights (load called)) (load called) 1)) 3).rights ≡ 2)
     × (told by_rights called (Cycle ∷ Show 0 ∷ Show 1 ∷ []) ≡ (6 ∷ 2 ∷ []) ∷ (0 ∷ 7 ∷ 1 ∷ []) ∷ (0 ∷ 0 ∷ 0 ∷ []) ∷ [])
     × (trail_after by_rights called (Cycle ∷ []) ≡ Some (record { procedure = 0; offset = 53; device = 0; cause = Rights; right = 1 }))
+    × (trail_numbers (trail_after by_rights called (Cycle ∷ [])) ≡ 0 ∷ 53 ∷ 0 ∷ 40 ∷ 1 ∷ [])
 
 pub record Cases : Type 0 where
   pub case1 : Case1

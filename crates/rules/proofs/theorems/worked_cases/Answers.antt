@@ -36,7 +36,7 @@ case7 = (refl, refl)
 
 case8 : Case8
 unfolding gap front read read_all accepts declarations
-case8 = (refl, refl, refl, refl)
+case8 = (refl, refl, refl, refl, refl)
 
 pub returns : goal.returns
 returns c = record { case1 = case1; case2 = case2; case3 = case3; case4 = case4; case5 = case5; case6 = case6; case7 = case7; case8 = case8 }
