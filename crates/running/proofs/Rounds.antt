@@ -1,7 +1,7 @@
 -- The entries of a cycle, one after the other.
 use Rattle.std.proofs.Common.{◌≡◌, ℕ, suc, ◌+◌, ◌<◌, ◌≤◌, List, length, get_or, drop, sym, ap, ◌∙◌, subst, add-one, arith, drop_of_length-le, drop-cons}
-use Rattle.std.specs.List.{AllByRecursion as All}
-use Rattle.std.proofs.ByRecursion.{All-get_or}
+use Rattle.std.specs.List.{All}
+use Rattle.std.proofs.lemmas.List.Elements.{All-get_or}
 use Rattle.layout.specs.Program.{Program}
 use Rattle.package.specs.declared.held.Package.{Package}
 use Rattle.package.specs.Loads.{tree_of}
