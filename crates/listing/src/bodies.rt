@@ -63,7 +63,8 @@ impl BodyLines {
     {
         let mut rest = bytes;
         let mut offset = at;
-        // The loop moves along the bytes: an iterator would answer each command with its offset, which is counted here.
+        // The loop moves along the bytes. An iterator of commands would have to say in its contract, once more, how a
+        // block is read.
         while let Ok((command, after)) = decode(rest) {
             self.list_command(command, offset, depth)?;
             offset = offset.saturating_add(rest.len().saturating_sub(after.len()));

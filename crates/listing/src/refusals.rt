@@ -25,7 +25,7 @@ fn in_words(fault: Fault) -> &'static str
     }
 }
 
-// The cause of a refusal, in one sentence. `Display` would only write it: here the sentence is what is answered.
+// The cause of a refusal, in one sentence: a text that outlives the refusal, where `Display` would only write it.
 pub fn cause(refusal: Refusal) -> &'static str
     ensures { result.now ≡ cause_text refusal }
 {

@@ -77,7 +77,7 @@ impl<'a> Question<'a> {
     }
 
     // Whether one of the commands of these bytes may write the place. The loop moves along the bytes, up to the first
-    // that may: an iterator of commands would have this loop inside it, and `any` around it.
+    // that may: an iterator of commands would have to say in its contract, once more, how a block is read.
     #[cycle(may_write)]
     fn any_writes(&self, bytes: &[u8]) -> bool
         ensures { TellsAll self.now bytes.now result }
@@ -100,7 +100,8 @@ impl<'a> Question<'a> {
         self.any_writes(first) || self.any_writes(second)
     }
 
-    // Whether a command may write the place, with its blocks and the body that it calls.
+    // Whether a command may write the place, with its blocks and the body that it calls. An arm for each command: of two
+    // in one arm the proof has only that it is one of them.
     #[cycle(may_write)]
     fn writes(&self, command: Command<'_>) -> bool
         ensures { TellsOne self.now (flat_of command.entry) result }

@@ -26,7 +26,8 @@ pub(crate) struct Scope<'a> {
 }
 
 // Where commands lie: what they may name, how deep their block is, and how many blocks are counted and not yet entered.
-// That the depth is at most 8 stands with each function: a literal of a struct with a ghost field may not say `..nest`.
+// That the depth is at most 8 stands with each function: with a ghost field for it no literal may say `..nest`, and a
+// method that makes the inner nest would say in three clauses what the literal shows.
 #[derive(Clone, Copy)]
 struct Nest<'a> {
     scope: Scope<'a>,
@@ -177,19 +178,18 @@ fn count<'a>(command: Command<'a>) -> usize
 // The first fault of a command at the offset `at`, its blocks apart, where `counted` blocks are counted before it.
 fn first_fault<'a, 'b>(
     command: Command<'a>,
-    scope: Scope<'b>,
+    nest: Nest<'b>,
     at: usize,
-    depth: u8,
     counted: usize,
 ) -> Result<(), Refusal>
     requires { counted ≤ 256 }
-    ensures { (n q : ℕ) → n + q ≡ counted → Decides (scope_of scope.entry) (flat_of command.entry) at depth n q result }
+    ensures { (n q : ℕ) → n + q ≡ counted → Decides (scope_of nest.entry.scope) (flat_of command.entry) at nest.entry.depth n q result }
 {
     match command {
         _ if !turns(command) => Err(Refusal::Fault(Fault::PastEnd, at)),
-        _ if !declared(command, scope) => Err(Refusal::Fault(Fault::NotDeclared, at)),
-        _ if !spares_inputs(command, scope) => Err(Refusal::Fault(Fault::InputAsTarget, at)),
-        _ if !reaches(command, scope, depth) => Err(Refusal::Fault(Fault::TooDeep, at)),
+        _ if !declared(command, nest.scope) => Err(Refusal::Fault(Fault::NotDeclared, at)),
+        _ if !spares_inputs(command, nest.scope) => Err(Refusal::Fault(Fault::InputAsTarget, at)),
+        _ if !reaches(command, nest.scope, nest.depth) => Err(Refusal::Fault(Fault::TooDeep, at)),
         _ if counted + count(command) > 256 => Err(Refusal::Fault(Fault::OverLimit, at)),
         _ => Ok(()),
     }
@@ -207,7 +207,8 @@ fn call(procedures: &[Procedure], procedure: u8) -> Cost
 }
 
 // Holds the end of the block that is read; the end of the block around it comes back on every way out. It borrows the
-// end alone, so the end, the nest and the blocks are arguments beside each other, and what ties them is in each contract.
+// end while the blocks go on to the calls inside, so the two are arguments beside each other and no fields of one struct,
+// and what ties them together is in each contract (docs/DECISIONS.md, "Forms").
 struct EndGuard<'a> {
     end: &'a mut usize,
     outer: usize,
@@ -342,13 +343,7 @@ fn step<'a, 'b>(
     ensures few { vec_len blocks.new + nest.entry.waiting ≤ 256 }
     ensures walks { WalksOne (scope_of nest.entry.scope) (flat_of command.entry) at nest.entry.depth nest.entry.waiting blocks.old.items blocks.new.items result }
 {
-    first_fault(
-        command,
-        nest.scope,
-        at,
-        nest.depth,
-        blocks.len() + nest.waiting,
-    )?;
+    first_fault(command, nest, at, blocks.len() + nest.waiting)?;
     match command {
         Command::Plain(_) => Ok(Cost {
             steps: 1,
@@ -388,7 +383,8 @@ fn check<'a>(
     let mut rest = bytes;
     let mut steps = 0u64;
     let mut highest = 0u8;
-    // The loop moves along the bytes: an iterator would have to answer each command with its offset, and the first refusal.
+    // The loop moves along the bytes. An iterator of commands would have to say in its contract, once more, how a block
+    // is read, and to answer an offset and a refusal with each.
     while !rest.is_empty() {
         let at = *end - rest.len();
         let (command, after) = match decode(rest) {

@@ -28,7 +28,8 @@ fn read(heap: Global, bytes: &[u8]) -> Result<Contents, Refusal>
     let mut rest = bytes;
     // Before the first declaration, a byte below every leading one.
     let mut latest = 0u8;
-    // The loop moves along the bytes: what may stand next depends on what has been declared.
+    // The loop moves along the bytes: an iterator of declarations would carry the offset and the latest byte, and what
+    // each is checked against would still be here.
     loop {
         let at = bytes.len() - rest.len();
         let Some((declaration, after)) = take(rest, at, latest)? else {
