@@ -2,8 +2,8 @@
 ghost use Rattle.std.specs.Prelude.{◌≡◌, [], Bool, ℕ, ◌+◌, ◌≤◌};
 ghost use Rattle.rules.specs.Calls.{owns as owns_it, post_answer, read_answer, show_answer, posting, posted, cycle as cycle_of, cycle_answer, kept};
 ghost use Rattle.running.specs.States.{held_of};
-ghost use Rattle.running.specs.Parts.{mixing, assembled, declared_by};
-ghost use Rattle.controller.specs.Holding.{says};
+ghost use Rattle.running.specs.Parts.{mixing, declared_by};
+ghost use Rattle.controller.specs.Holding.{says, built};
 
 use crate::controller::Controller;
 use frames::{FrameKind, GrantKind};
@@ -111,8 +111,8 @@ impl<A: Assembly> Controller<A> {
 
     // Runs the entries in order; answers the steps done and the drives refused.
     pub fn cycle(&mut self) -> (u32, u32)
-        ensures answer { result ≡ cycle_answer (cycle_of (assembled A.Kind.meaning A.Kind.widening (A.Oracle.answers self.old.oracle)) (says self.old.held) (held_of self.old.work)) }
-        ensures holds { held_of self.new.work ≡ kept (cycle_of (assembled A.Kind.meaning A.Kind.widening (A.Oracle.answers self.old.oracle)) (says self.old.held) (held_of self.old.work)) }
+        ensures answer { result ≡ cycle_answer (cycle_of (built A.Kind.meaning A.Kind.widening A.Oracle.sets self.old.held) (says self.old.held) (held_of self.old.work)) }
+        ensures holds { held_of self.new.work ≡ kept (cycle_of (built A.Kind.meaning A.Kind.widening A.Oracle.sets self.old.held) (says self.old.held) (held_of self.old.work)) }
         ensures brief { (result.0 ≤ 1000000) × (result.1 ≤ result.0) }
         ensures keeps { (self.new.held ≡ self.old.held) × (self.new.oracle ≡ self.old.oracle) }
     {
@@ -122,7 +122,7 @@ impl<A: Assembly> Controller<A> {
 
     // The value and the frame of a place, in the name of a right.
     pub fn read(&self, place: u8, right: u8) -> Result<(u32, u64), Refusal>
-        ensures { result ≡ read_answer (assembled A.Kind.meaning A.Kind.widening (A.Oracle.answers self.now.oracle)) (says self.now.held) (held_of self.now.work) place right }
+        ensures { result ≡ read_answer (built A.Kind.meaning A.Kind.widening A.Oracle.sets self.now.held) (says self.now.held) (held_of self.now.work) place right }
     {
         read_place::<A::Kind>(self.held.contents(), &self.work, place, right)
     }

@@ -1,4 +1,6 @@
 // What a controller holds.
+ghost use Rattle.controller.specs.Holding.{Serves};
+
 use oracles::WriteOracle;
 use package::held::Package;
 use running::assembly::Assembly;
@@ -12,4 +14,5 @@ pub struct Controller<A: Assembly> {
     pub(crate) oracle: A::Oracle,
     pub(crate) work: Work,
     pub(crate) stack: Stack,
+    ghost serves: { Serves (A.Oracle.answers oracle) A.Oracle.sets held },
 }

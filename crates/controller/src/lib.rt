@@ -4,3 +4,4 @@
 mod calls;
 pub mod controller;
 mod making;
+mod replaying;

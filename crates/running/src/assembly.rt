@@ -6,5 +6,11 @@ use oracles::WriteOracle;
 pub trait Assembly {
     type Kind: GrantKind;
 
-    type Oracle: WriteOracle;
+    type Oracle: WriteOracle + Drop;
+}
+
+impl<K: GrantKind, O: WriteOracle + Drop> Assembly for (K, O) {
+    type Kind = K;
+
+    type Oracle = O;
 }

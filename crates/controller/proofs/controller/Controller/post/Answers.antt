@@ -1,4 +1,4 @@
-use mathlib.Core.Path.{refl, ◌∙◌}
+use Rattle.std.proofs.Common.{refl, ◌∙◌}
 use Rattle.layout.specs.Program.{Program}
 use Rattle.rules.specs.Calls.{post_answer, posted}
 use Rattle.running.specs.States.{held_of}

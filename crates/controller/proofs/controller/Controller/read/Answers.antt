@@ -1,4 +1,4 @@
-use mathlib.Core.Path.{◌∙◌}
+use Rattle.std.proofs.Common.{◌∙◌}
 use Rattle.layout.specs.Program.{Program}
 use Rattle.rules.specs.Calls.{read_answer}
 use Rattle.running.specs.States.{held_of}
