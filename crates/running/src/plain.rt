@@ -14,7 +14,6 @@ use frames::{FrameKind, GrantKind};
 use layout::Table;
 use package::contents::Contents;
 use rules::{Cause, Context, Place, Trail};
-use std::option::Option;
 
 // What two values are combined to.
 fn combine(operation: Operation, a: u32, b: u32) -> u32
@@ -97,14 +96,9 @@ fn put<K: FrameKind>(work: &mut Work, context: Context, table: Table, index: u8,
 fn obstacle<K: GrantKind>(context: Context, need: u64, frame: u64) -> Option<(Cause, u8)>
     ensures { (v : ℕ) → result ≡ obstacle_of (mixing K.FrameKind.meaning) context need (place_of v frame) }
 {
-    if let Some(right) = K::gap(context.rights, need) {
-        return Some((Cause::Rights, right));
-    }
     let basis = K::mix(context.decisions, K::mix(context.own, frame));
-    match K::gap(basis, need) {
-        Some(right) => Some((Cause::Information, right)),
-        None => None,
-    }
+    let lacks = K::gap(context.rights, need).map(|right| (Cause::Rights, right));
+    lacks.or(K::gap(basis, need).map(|right| (Cause::Information, right)))
 }
 
 // A DRIVE at this offset of a device with this need.
