@@ -37,12 +37,12 @@ fn new_cell(cell: Cell) -> Place
 fn new_places(heap: Global, contents: &Contents) -> Result<Vec<Place>, AllocError>
     ensures { IfOk result (λ v. v.items ≡ (new_of (declared_by contents.now)).places) }
 {
-    let inputs = contents.inputs.iter();
-    let cells = contents.cells.iter();
-    inputs
-        .map(|input| new_input(contents, *input))
-        .chain(cells.map(|cell| new_cell(*cell)))
-        .collect(heap)
+    let inputs = contents
+        .inputs
+        .iter()
+        .map(|input| new_input(contents, *input));
+    let cells = contents.cells.iter().map(|cell| new_cell(*cell));
+    inputs.chain(cells).collect(heap)
 }
 
 // Its devices: one for each need, at command 0 and count 0.
