@@ -1,5 +1,5 @@
 -- What the loop of an entry keeps.
-use Rattle.std.proofs.Common.{◌≡◌, ℕ, ◌+◌, ◌-◌, ◌*◌, ◌<◌, ◌≤◌, List, [], ◌∷◌, Some, None, length, get_or, vec_items, vec_len, sym, ap, ◌∙◌, subst, arith}
+use Rattle.std.proofs.Common.{◌≡◌, ℕ, ◌+◌, ◌-◌, ◌*◌, ◌<◌, ◌≤◌, Bool, true, false, List, [], ◌∷◌, length, get_or, vec_items, vec_len, sym, ap, ◌∙◌, subst, arith}
 use Rattle.layout.specs.Tree.{no_commands}
 use Rattle.layout.specs.Declarations.{Contents}
 use Rattle.layout.specs.Accepted.{bodies, Lawful}
@@ -85,17 +85,19 @@ module _ (A : Assembly) (h : Package) (p : ℕ) (from : State) where
   unfolding Going
   turned t st s run so e = subst (Leads A bytes P goal) (sym e) (keeps A bytes P (laws_of h) (short_of h) goal t (above st) s so)
 
-  pub going_again : (t t' : Level) (st st' : Stack) (s s' : State) → Going A h p from t st s → running (left (Some t') st') s' ≡ turn_of A bytes P.contents t (above st) s → Going A h p from t' st' s'
+  pub going_again : (b : Bool) (t t' : Level) (st st' : Stack) (s s' : State) → b ≡ true → Going A h p from t st s → running (left b t' st') s' ≡ turn_of A bytes P.contents t (above st) s → Going A h p from t' st' s'
   unfolding Going
-  going_again t t' st st' s s' so e = turned t st s (running (t' ∷ above st') s') so e
+  going_again b t t' st st' s s' some so e = subst (λ (x : Bool). Leads A bytes P goal (running (left x t' st') s')) some (turned t st s (running (left b t' st') s') so e)
 
-  pub going_less : CanRun A P p from → (t t' : Level) (st st' : Stack) (s s' : State) → Going A h p from t st s → running (left (Some t') st') s' ≡ turn_of A bytes P.contents t (above st) s → falling st' s'.steps < falling st s.steps
-  going_less can t t' st st' s s' so e =
-      let g = subst (λ (r : Run). length r.levels + 2 * s.steps < length (t ∷ above st) + 2 * r.state.steps) (sym e) (turn_falls A P.contents t (above st) s bytes) in
-      let small = going_asks can t' st' s' (going_again t t' st st' s s' so e) in
+  pub going_less : CanRun A P p from → (b : Bool) (t t' : Level) (st st' : Stack) (s s' : State) → b ≡ true → Going A h p from t st s → running (left b t' st') s' ≡ turn_of A bytes P.contents t (above st) s → falling st' s'.steps < falling st s.steps
+  going_less can b t t' st st' s s' some so e =
+      let f = turn_falls A P.contents t (above st) s bytes in
+      let run : running (t' ∷ above st') s' ≡ turn_of A bytes P.contents t (above st) s = subst (λ (x : Bool). running (left x t' st') s' ≡ turn_of A bytes P.contents t (above st) s) some e in
+      let g = subst (λ (r : Run). length r.levels + 2 * s.steps < length (t ∷ above st) + 2 * r.state.steps) (sym run) f in
+      let small = going_asks can t' st' s' (going_again b t t' st st' s s' some so e) in
       omega (arith, g, small.0, above_length st, above_length st')
 
-  pub going_done : (t : Level) (st st' : Stack) (s s' : State) → Going A h p from t st s → running (left None st') s' ≡ turn_of A bytes P.contents t (above st) s → s' ≡ goal
-  going_done t st st' s s' so e =
-      let l : Leads A bytes P goal (running [] s') = turned t st s (running [] s') so e in
+  pub going_done : (b : Bool) (t t' : Level) (st st' : Stack) (s s' : State) → b ≡ false → Going A h p from t st s → running (left b t' st') s' ≡ turn_of A bytes P.contents t (above st) s → s' ≡ goal
+  going_done b t t' st st' s s' none so e =
+      let l : Leads A bytes P goal (running [] s') = subst (λ (x : Bool). Leads A bytes P goal (running (left x t' st') s')) none (turned t st s (running (left b t' st') s') so e) in
       l.same

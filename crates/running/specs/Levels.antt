@@ -1,5 +1,5 @@
 -- The blocks that are being run, and what one turn of the loop makes of them.
-use Rattle.std.specs.Prelude.{ℕ, zero, suc, ◌+◌, ◌-◌, min, Bool, cond, List, [], ◌∷◌, reverse, length, get_or, take, drop, Some, None, Option, vec_items, ◌==◌, nat_lt, slice_index_or}
+use Rattle.std.specs.Prelude.{ℕ, zero, suc, ◌+◌, ◌-◌, min, Bool, cond, List, [], ◌∷◌, reverse, length, get_or, take, drop, vec_items, ◌==◌, nat_lt, slice_index_or}
 use Rattle.layout.specs.declared.Procedure.{Procedure}
 use Rattle.layout.specs.declared.Span.{Span}
 use Rattle.layout.specs.Tree.{asked}
@@ -130,6 +130,5 @@ unfoldable pub turn_of : Assembly → List ℕ → Contents → Level → List L
 turn_of A bytes C t ts s = cond (nat_lt t.at t.end) (act_front A C t (front (part_of bytes t)) ts s) (close A t t.closing ts s)
 
 -- the blocks that are being run, where there is still one
-abbrev pub left : Option Level → Stack → List Level
-left None st = []
-left (Some t) st = t ∷ above st
+abbrev pub left : Bool → Level → Stack → List Level
+left b t st = cond b (t ∷ above st) []

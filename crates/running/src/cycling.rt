@@ -27,9 +27,7 @@ fn run_entry<A: Assembly>(
 {
     stack.clear();
     let mut level = entry::<A::Kind>(held.contents(), p);
-    while let Some(next) = step::<A>(held, oracle, level, stack, work) {
-        level = next;
-    }
+    while step::<A>(held, oracle, &mut level, stack, work) {}
 }
 
 // Runs the entries of a package in order, from no steps, no refused drives and no trail.

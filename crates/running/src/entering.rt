@@ -39,35 +39,45 @@ fn block(n: usize, start: usize, end: usize, context: Context, closing: Closing)
     }
 }
 
-// What is left of a block behind a command, where `rest` bytes follow and the next block has the number `next`.
-pub(crate) fn onward(level: Level, rest: usize, next: usize) -> Level
-    ensures { result ≡ onward level rest next }
+// Goes on behind a command, where `rest` bytes follow.
+pub(crate) fn go_on(level: &mut Level, rest: usize)
+    ensures { level.new ≡ onward level.old rest level.old.next }
 {
-    Level {
+    level.at = level.end.saturating_sub(rest);
+}
+
+// Enters a block; the one around it will go on behind the command, where `rest` bytes follow, with the block `next`.
+fn enter(level: &mut Level, stack: &mut Stack, inner: Level, rest: usize, next: usize)
+    requires { vec_len stack.old.levels < 72 }
+    ensures into { level.new ≡ inner }
+    ensures around { above stack.new ≡ onward level.old rest next ∷ above stack.old }
+{
+    stack.push(Level {
         at: level.end.saturating_sub(rest),
         next,
-        ..level
-    }
+        ..*level
+    });
+    *level = inner;
 }
 
 // One of the two blocks of a choice, `first` and `second` bytes long, under what was told.
 pub(crate) fn choose<K: FrameKind>(
     blocks: &[Span],
-    level: Level,
+    level: &mut Level,
     stack: &mut Stack,
     test: bool,
     told: u64,
     first: usize,
     second: usize,
     rest: usize,
-) -> Level
+)
     requires { vec_len stack.old.levels < 72 }
-    ensures { result ∷ above stack.new ≡ chosen (mixing K.FrameKind.meaning) blocks.now level (above stack.old) test told first second rest }
+    ensures { level.new ∷ above stack.new ≡ chosen (mixing K.FrameKind.meaning) blocks.now level.old (above stack.old) test told first second rest }
 {
     let one = level.next;
     let other = block_behind(blocks, one);
-    let outer = onward(level, rest, block_behind(blocks, other));
-    let middle = outer.at.saturating_sub(second);
+    let end = level.end.saturating_sub(rest);
+    let middle = end.saturating_sub(second);
     let closing = Closing::Choice {
         first: one,
         second: other,
@@ -77,73 +87,67 @@ pub(crate) fn choose<K: FrameKind>(
         decisions: K::mix(level.context.decisions, told),
         ..level.context
     };
-    stack.push(outer);
-    if test {
+    let inner = if test {
         block(one, middle.saturating_sub(first), middle, context, closing)
     } else {
-        block(other, middle, outer.at, context, closing)
-    }
+        block(other, middle, end, context, closing)
+    };
+    enter(level, stack, inner, rest, block_behind(blocks, other));
 }
 
 // The block of a loop, `turn` bytes long, at its end: its first reading is like every other.
 pub(crate) fn repeat<K: FrameKind>(
     blocks: &[Span],
-    level: Level,
+    level: &mut Level,
     stack: &mut Stack,
     place: u8,
     times: u8,
     turn: usize,
     rest: usize,
-) -> Level
+)
     requires { vec_len stack.old.levels < 72 }
-    ensures { result ∷ above stack.new ≡ looped (mixing K.FrameKind.meaning) blocks.now level (above stack.old) place times turn rest }
+    ensures { level.new ∷ above stack.new ≡ looped (mixing K.FrameKind.meaning) blocks.now level.old (above stack.old) place times turn rest }
 {
     let number = level.next;
-    let outer = onward(level, rest, block_behind(blocks, number));
+    let end = level.end.saturating_sub(rest);
     let turns = Turns {
         place,
         block: number,
-        start: outer.at.saturating_sub(turn),
+        start: end.saturating_sub(turn),
         left: times,
         learned: K::full(),
         decisions: level.context.decisions,
     };
-    stack.push(outer);
-    block(
-        number,
-        outer.at,
-        outer.at,
-        level.context,
-        Closing::Loop(turns),
-    )
+    let inner = block(number, end, end, level.context, Closing::Loop(turns));
+    enter(level, stack, inner, rest, block_behind(blocks, number));
 }
 
 // The block of a grant, `length` bytes long.
 pub(crate) fn grant<K: GrantKind>(
     blocks: &[Span],
-    level: Level,
+    level: &mut Level,
     stack: &mut Stack,
     frame: u64,
     length: usize,
     rest: usize,
-) -> Level
+)
     requires { vec_len stack.old.levels < 72 }
-    ensures { result ∷ above stack.new ≡ granted_in (granting K.FrameKind.meaning K.GrantKind.widening) blocks.now level (above stack.old) frame length rest }
+    ensures { level.new ∷ above stack.new ≡ granted_in (granting K.FrameKind.meaning K.GrantKind.widening) blocks.now level.old (above stack.old) frame length rest }
 {
     let number = level.next;
-    let outer = onward(level, rest, block_behind(blocks, number));
+    let end = level.end.saturating_sub(rest);
     let context = Context {
         rights: K::widen(level.context.rights, K::mix(frame, level.context.own)),
         ..level.context
     };
-    stack.push(outer);
-    block(
+    let inner = block(
         number,
-        outer.at.saturating_sub(length),
-        outer.at,
+        end.saturating_sub(length),
+        end,
         context,
         Closing::Nothing,
-    )
+    );
+    enter(level, stack, inner, rest, block_behind(blocks, number));
 }
 
 // The body of a procedure.
@@ -163,13 +167,13 @@ fn body(procedure: Procedure, context: Context) -> Level
 // The body of a called procedure, which runs for its own party, with the rights in force that its party shares.
 pub(crate) fn call<K: FrameKind>(
     contents: &Contents,
-    level: Level,
+    level: &mut Level,
     stack: &mut Stack,
     p: u8,
     rest: usize,
-) -> Level
+)
     requires { vec_len stack.old.levels < 72 }
-    ensures { result ∷ above stack.new ≡ called_in (mixing K.FrameKind.meaning) (contents_of contents.now) level (above stack.old) p rest }
+    ensures { level.new ∷ above stack.new ≡ called_in (mixing K.FrameKind.meaning) (contents_of contents.now) level.old (above stack.old) p rest }
 {
     let procedure = procedure_at(&contents.procedures, p);
     let own = frame_of(&contents.parties, procedure.party);
@@ -179,8 +183,9 @@ pub(crate) fn call<K: FrameKind>(
         rights: K::mix(level.context.rights, own),
         ..level.context
     };
-    stack.push(onward(level, rest, level.next));
-    body(procedure, context)
+    let inner = body(procedure, context);
+    let next = level.next;
+    enter(level, stack, inner, rest, next);
 }
 
 // The body of an entry, which runs with all the rights of its party, before any decision.

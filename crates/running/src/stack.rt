@@ -1,6 +1,6 @@
 // The stack of blocks.
-ghost use Rattle.std.specs.Prelude.{◌≡◌, ℕ, ◌+◌, ◌<◌, [], ◌∷◌, IfOk, vec_len};
-ghost use Rattle.running.specs.Levels.{above, left};
+ghost use Rattle.std.specs.Prelude.{◌≡◌, ℕ, ◌+◌, ◌<◌, [], ◌∷◌, IfOk, vec_len, MatchOption};
+ghost use Rattle.running.specs.Levels.{above};
 
 use crate::levels::{Level, Stack};
 use std::alloc::{AllocError, Global};
@@ -28,10 +28,10 @@ impl Stack {
         self.levels.push_reserved(level);
     }
 
-    // The innermost block; none where nothing is being run.
+    // The innermost block.
     #[tactic(auto, unfolding(crate::specs::Levels::above), using(std::proofs::lemmas::Grind::common_steps))]
     pub(crate) fn pop(&mut self) -> Option<Level>
-        ensures { left result self.new ≡ above self.old }
+        ensures { MatchOption result (above self.old ≡ []) (λ t. above self.old ≡ t ∷ above self.new) }
     {
         self.levels.pop()
     }

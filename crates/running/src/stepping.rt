@@ -9,7 +9,7 @@ ghost use Rattle.running.specs.Parts.{mixing, granting, assembled};
 ghost use Rattle.running.specs.Levels.{above, running, act as act_of, turn_level, closed_loop, close as close_of, turn_of, left};
 
 use crate::assembly::Assembly;
-use crate::entering::{call, choose, grant, onward, repeat};
+use crate::entering::{call, choose, go_on, grant, repeat};
 use crate::levels::{Closing, Level, Stack, Turns};
 use crate::lowering::{Blocks, lower_named};
 use crate::places::Work;
@@ -41,22 +41,22 @@ fn passes<K: GrantKind>(context: Context, told: u64, frame: u64) -> bool
 // A command, with `rest` bytes behind it.
 fn act<'a, K: GrantKind>(
     contents: &Contents,
-    level: Level,
+    level: &mut Level,
     stack: &mut Stack,
     work: &mut Work,
     command: Command<'a>,
     rest: usize,
-) -> Level
+)
     requires steps { work.old.steps + 1 < 2 ^ 32 }
     requires refusals { work.old.refused + 1 < 2 ^ 32 }
     requires depth { vec_len stack.old.levels < 72 }
-    ensures { running (result ∷ above stack.new) (state_of work.new) ≡ act_of (granting K.FrameKind.meaning K.GrantKind.widening) (contents_of contents.now) level (flat_of command.entry) rest (above stack.old) (state_of work.old) }
+    ensures { running (level.new ∷ above stack.new) (state_of work.new) ≡ act_of (granting K.FrameKind.meaning K.GrantKind.widening) (contents_of contents.now) level.old (flat_of command.entry) rest (above stack.old) (state_of work.old) }
 {
     work.tick();
     match command {
         Command::Plain(plain) => {
             run_plain::<K>(contents, work, level.context, level.at, plain);
-            onward(level, rest, level.next)
+            go_on(level, rest);
         }
         Command::When {
             place,
@@ -74,7 +74,7 @@ fn act<'a, K: GrantKind>(
                 first.len(),
                 second.len(),
                 rest,
-            )
+            );
         }
         Command::Loop { place, times, body } => {
             repeat::<K>(
@@ -85,10 +85,10 @@ fn act<'a, K: GrantKind>(
                 times,
                 body.len(),
                 rest,
-            )
+            );
         }
         Command::Grant { frame, body } => {
-            grant::<K>(&contents.blocks, level, stack, frame, body.len(), rest)
+            grant::<K>(&contents.blocks, level, stack, frame, body.len(), rest);
         }
         Command::Call { procedure } => call::<K>(contents, level, stack, procedure, rest),
         Command::Try {
@@ -108,8 +108,21 @@ fn act<'a, K: GrantKind>(
                 first.len(),
                 second.len(),
                 rest,
-            )
+            );
         }
+    }
+}
+
+// Goes back to the block around; no where there is none.
+fn leave(level: &mut Level, stack: &mut Stack) -> bool
+    ensures { left result level.new stack.new ≡ above stack.old }
+{
+    match stack.pop() {
+        Some(outer) => {
+            *level = outer;
+            true
+        }
+        None => false,
     }
 }
 
@@ -137,73 +150,74 @@ fn next_turn<K: FrameKind>(level: Level, turns: Turns, learned: u64) -> Level
 // The block of a loop has ended, or not begun: reads its place afresh, or ends the loop.
 fn close_loop<A: Assembly>(
     oracle: &A::Oracle,
-    level: Level,
+    level: &mut Level,
     stack: &mut Stack,
     work: &mut Work,
     turns: Turns,
-) -> Option<Level>
+) -> bool
     requires { work.old.steps + 1 < 2 ^ 32 }
-    ensures { running (left result stack.new) (state_of work.new) ≡ closed_loop (assembled A.Kind.FrameKind.meaning A.Kind.GrantKind.widening (A.Oracle.WriteOracle.answers oracle.now)) level turns turns.left (above stack.old) (state_of work.old) }
+    ensures { running (left result level.new stack.new) (state_of work.new) ≡ closed_loop (assembled A.Kind.FrameKind.meaning A.Kind.GrantKind.widening (A.Oracle.WriteOracle.answers oracle.now)) level.old turns turns.left (above stack.old) (state_of work.old) }
 {
     if turns.left == 0 {
         lower_named::<A>(oracle, Blocks::One(turns.block), turns.learned, work);
-        return stack.pop();
+        return leave(level, stack);
     }
     let (value, told) = learn::<A::Kind>(work, level.context, turns.place);
     let learned = <A::Kind as FrameKind>::mix(turns.learned, told);
     work.tick();
     if value == 0 {
         lower_named::<A>(oracle, Blocks::One(turns.block), learned, work);
-        return stack.pop();
+        return leave(level, stack);
     }
-    Some(next_turn::<A::Kind>(level, turns, learned))
+    *level = next_turn::<A::Kind>(*level, turns, learned);
+    true
 }
 
 // A block has ended: what it was entered for is closed.
 fn close<A: Assembly>(
     oracle: &A::Oracle,
-    level: Level,
+    level: &mut Level,
     stack: &mut Stack,
     work: &mut Work,
-) -> Option<Level>
+) -> bool
     requires { work.old.steps + 1 < 2 ^ 32 }
-    ensures { running (left result stack.new) (state_of work.new) ≡ close_of (assembled A.Kind.FrameKind.meaning A.Kind.GrantKind.widening (A.Oracle.WriteOracle.answers oracle.now)) level level.closing (above stack.old) (state_of work.old) }
+    ensures { running (left result level.new stack.new) (state_of work.new) ≡ close_of (assembled A.Kind.FrameKind.meaning A.Kind.GrantKind.widening (A.Oracle.WriteOracle.answers oracle.now)) level.old level.old.closing (above stack.old) (state_of work.old) }
 {
     match level.closing {
-        Closing::Nothing => stack.pop(),
+        Closing::Nothing => leave(level, stack),
         Closing::Choice {
             first,
             second,
             told,
         } => {
             lower_named::<A>(oracle, Blocks::Either(first, second), told, work);
-            stack.pop()
+            leave(level, stack)
         }
         Closing::Loop(turns) => close_loop::<A>(oracle, level, stack, work, turns),
     }
 }
 
-// One turn: the block that is run next, or none where nothing is left to run.
+// One turn; no where nothing is left to run.
 pub(crate) fn step<A: Assembly>(
     held: &Package,
     oracle: &A::Oracle,
-    level: Level,
+    level: &mut Level,
     stack: &mut Stack,
     work: &mut Work,
-) -> Option<Level>
+) -> bool
     requires steps { work.old.steps + 1 < 2 ^ 32 }
     requires refusals { work.old.refused + 1 < 2 ^ 32 }
     requires depth { vec_len stack.old.levels < 72 }
-    ensures { running (left result stack.new) (state_of work.new) ≡ turn_of (assembled A.Kind.FrameKind.meaning A.Kind.GrantKind.widening (A.Oracle.WriteOracle.answers oracle.now)) held.now.bytes.items (contents_of held.now.contents) level (above stack.old) (state_of work.old) }
+    ensures { running (left result level.new stack.new) (state_of work.new) ≡ turn_of (assembled A.Kind.FrameKind.meaning A.Kind.GrantKind.widening (A.Oracle.WriteOracle.answers oracle.now)) held.now.bytes.items (contents_of held.now.contents) level.old (above stack.old) (state_of work.old) }
 {
     if level.at >= level.end {
         return close::<A>(oracle, level, stack, work);
     }
     match decode(part(held.bytes(), level.at, level.end - level.at)) {
         Ok((command, rest)) => {
-            let contents = held.contents();
-            Some(act::<A::Kind>(contents, level, stack, work, command, rest.len()))
+            act::<A::Kind>(held.contents(), level, stack, work, command, rest.len());
+            true
         }
-        Err(_) => stack.pop(),
+        Err(_) => leave(level, stack),
     }
 }

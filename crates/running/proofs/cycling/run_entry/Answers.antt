@@ -8,25 +8,25 @@ use Rattle.running.specs.Levels.{body_level}
 use Rattle.running.proofs.Going.{going_start, going_asks, going_again, going_less, going_done}
 use Rattle.running.proofs.cycling.run_entry.Goals as goal
 
-pub loop-next-init : goal.loop-next-init
-loop-next-init g c =
+pub loop-level-init : goal.loop-level-init
+loop-level-init g c =
     going_start (assembled g.A.Kind.FrameKind.meaning g.A.Kind.GrantKind.widening (g.A.Oracle.WriteOracle.answers c.args.oracle.now)) c.args.held.now c.args.p (state_of c.args.work.now) c.requires c.entry-level.result c.clear.new.self
     (c.entry-level.ensures ∙ ap (λ (x : Contents). body_level (get_or (contents_of x).procedures c.args.p no_procedure) (fresh (mixing g.A.Kind.FrameKind.meaning) (declared_by x) c.args.p)) c.contents.ensures)
     c.clear.ensures
 
 pub step-requires : goal.step-requires
 step-requires g c =
-    let a = going_asks (assembled g.A.Kind.FrameKind.meaning g.A.Kind.GrantKind.widening (g.A.Oracle.WriteOracle.answers c.args.oracle.now)) c.args.held.now c.args.p (state_of c.args.work.now) c.requires c.loop-next.level c.loop-next.stack (state_of c.loop-next.work) c.loop-next.invariant in
+    let a = going_asks (assembled g.A.Kind.FrameKind.meaning g.A.Kind.GrantKind.widening (g.A.Oracle.WriteOracle.answers c.args.oracle.now)) c.args.held.now c.args.p (state_of c.args.work.now) c.requires c.loop-level.level c.loop-level.stack (state_of c.loop-level.work) c.loop-level.invariant in
     record { steps = a.0; refusals = a.1; depth = a.2 }
 
-pub loop-next-smaller : goal.loop-next-smaller
-loop-next-smaller g c =
-    going_less (assembled g.A.Kind.FrameKind.meaning g.A.Kind.GrantKind.widening (g.A.Oracle.WriteOracle.answers c.args.oracle.now)) c.args.held.now c.args.p (state_of c.args.work.now) c.requires c.loop-next.level _ c.loop-next.stack c.step.new.stack (state_of c.loop-next.work) (state_of c.step.new.work) c.loop-next.invariant c.in-Some.ensures
+pub loop-level-smaller : goal.loop-level-smaller
+loop-level-smaller g c =
+    going_less (assembled g.A.Kind.FrameKind.meaning g.A.Kind.GrantKind.widening (g.A.Oracle.WriteOracle.answers c.args.oracle.now)) c.args.held.now c.args.p (state_of c.args.work.now) c.requires c.step.result c.loop-level.level c.step.new.level c.loop-level.stack c.step.new.stack (state_of c.loop-level.work) (state_of c.step.new.work) c.loop-level-test.true c.loop-level.invariant c.step.ensures
 
-pub loop-next-preserved : goal.loop-next-preserved
-loop-next-preserved g c =
-    going_again (assembled g.A.Kind.FrameKind.meaning g.A.Kind.GrantKind.widening (g.A.Oracle.WriteOracle.answers c.args.oracle.now)) c.args.held.now c.args.p (state_of c.args.work.now) c.loop-next.level _ c.loop-next.stack c.step.new.stack (state_of c.loop-next.work) (state_of c.step.new.work) c.loop-next.invariant c.in-Some.ensures
+pub loop-level-preserved : goal.loop-level-preserved
+loop-level-preserved g c =
+    going_again (assembled g.A.Kind.FrameKind.meaning g.A.Kind.GrantKind.widening (g.A.Oracle.WriteOracle.answers c.args.oracle.now)) c.args.held.now c.args.p (state_of c.args.work.now) c.step.result c.loop-level.level c.step.new.level c.loop-level.stack c.step.new.stack (state_of c.loop-level.work) (state_of c.step.new.work) c.loop-level-test.true c.loop-level.invariant c.step.ensures
 
 pub returns : goal.returns
 returns g c =
-    going_done (assembled g.A.Kind.FrameKind.meaning g.A.Kind.GrantKind.widening (g.A.Oracle.WriteOracle.answers c.args.oracle.now)) c.args.held.now c.args.p (state_of c.args.work.now) c.loop-next.level c.loop-next.stack c.step.new.stack (state_of c.loop-next.work) (state_of c.step.new.work) c.loop-next.invariant c.in_default.ensures
+    going_done (assembled g.A.Kind.FrameKind.meaning g.A.Kind.GrantKind.widening (g.A.Oracle.WriteOracle.answers c.args.oracle.now)) c.args.held.now c.args.p (state_of c.args.work.now) c.step.result c.loop-level.level c.step.new.level c.loop-level.stack c.step.new.stack (state_of c.loop-level.work) (state_of c.step.new.work) c.loop-level-test.false c.loop-level.invariant c.step.ensures

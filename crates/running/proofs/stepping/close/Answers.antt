@@ -8,5 +8,5 @@ use Rattle.running.proofs.stepping.close.Goals as goal
 
 pub returns-in-Choice : goal.returns-in-Choice
 returns-in-Choice g c =
-    ran c.pop-in-Choice.ensures c.lower_named.ensures
-    ∙ ap (λ (κ : Closing). close (assembled g.A.Kind.FrameKind.meaning g.A.Kind.GrantKind.widening (g.A.Oracle.WriteOracle.answers c.args.oracle.now)) c.args.level κ (above c.args.stack.now) (state_of c.args.work.now)) (sym c.in-Choice.is)
+    ran c.leave-in-Choice.ensures c.lower_named.ensures
+    ∙ ap (λ (κ : Closing). close (assembled g.A.Kind.FrameKind.meaning g.A.Kind.GrantKind.widening (g.A.Oracle.WriteOracle.answers c.args.oracle.now)) c.args.level.now κ (above c.args.stack.now) (state_of c.args.work.now)) (sym c.in-Choice.is)

@@ -17,19 +17,19 @@ returns-in-Ok g c =
     let K = g.A.Kind.FrameKind.meaning in
     let w = g.A.Kind.GrantKind.widening in
     let N = g.A.Oracle.WriteOracle.answers c.args.oracle.now in
-    let t = c.args.level in
+    let t = c.args.level.now in
     let ts = above c.args.stack.now in
     let s = state_of c.args.work.now in
     let part : c.part.result.now ≡ part_of (vec_items c.args.held.now.bytes) t = c.part.ensures ∙ ap (λ (bs : List ℕ). take (t.end - t.at) (drop t.at bs)) c.bytes.ensures in
     turn_front (assembled K w N) (vec_items c.args.held.now.bytes) (contents_of c.args.held.now.contents) t ts s _ (got (flat_of c.in-Ok.command) c.in-Ok.rest.now) c.if-level.false
     (ap front (sym part) ∙ c.in-Ok.ensures)
     (c.act.ensures
-    ∙ ap (λ (x : Contents). act (granting K w) (contents_of x) t (flat_of c.in-Ok.command) (length c.in-Ok.rest.now) ts s) c.contents-contents.ensures
+    ∙ ap (λ (x : Contents). act (granting K w) (contents_of x) t (flat_of c.in-Ok.command) (length c.in-Ok.rest.now) ts s) c.contents.ensures
     ∙ act_any K w (λ n x. false) N (contents_of c.args.held.now.contents) t (flat_of c.in-Ok.command) _ ts s)
 
 pub returns-in-Err : goal.returns-in-Err
 returns-in-Err g c =
-    let t = c.args.level in
+    let t = c.args.level.now in
     let part : c.part.result.now ≡ part_of (vec_items c.args.held.now.bytes) t = c.part.ensures ∙ ap (λ (bs : List ℕ). take (t.end - t.at) (drop t.at bs)) c.bytes.ensures in
     turn_front _ (vec_items c.args.held.now.bytes) (contents_of c.args.held.now.contents) t (above c.args.stack.now) (state_of c.args.work.now) _ (bad (unread c.in-Err.field-0)) c.if-level.false (ap front (sym part) ∙ c.in-Err.ensures)
-    (ran c.pop.ensures refl)
+    (ran c.leave.ensures refl)
