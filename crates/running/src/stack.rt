@@ -29,7 +29,7 @@ impl Stack {
     }
 
     // The innermost block.
-    #[tactic(auto, unfolding(crate::specs::Levels::above), using(std::proofs::lemmas::Grind::common_steps))]
+    #[tactic(auto, unfolding(crate::specs::Levels::above))]
     pub(crate) fn pop(&mut self) -> Option<Level>
         ensures { MatchOption result (above self.old ≡ []) (λ t. above self.old ≡ t ∷ above self.new) }
     {
