@@ -42,8 +42,7 @@ pub fn run_cycle<A: Assembly>(
     work.steps = 0;
     work.refused = 0;
     work.trail = None;
-    let entries = held.contents().entries.as_slice();
-    for p in entries {
+    for p in &held.contents().entries {
         work.tick();
         run_entry::<A>(held, oracle, stack, work, *p);
     }

@@ -16,10 +16,7 @@ use rules::Context;
 fn inside_of(blocks: &[Span], n: usize) -> usize
     ensures { result ≡ (get_or blocks.now n no_span).inside }
 {
-    match blocks.get(n) {
-        Some(span) => span.inside,
-        None => 0,
-    }
+    blocks.get(n).map_or(0, |span| span.inside)
 }
 
 // The number of the block behind block n and those inside it.
@@ -42,14 +39,14 @@ fn block(n: usize, start: usize, end: usize, context: Context, closing: Closing)
     }
 }
 
-// Goes on behind a command, where `rest` bytes follow and the next block has the number `next`.
+// Goes on behind a command, where `rest` bytes follow.
 pub(crate) fn go_on(level: &mut Level, rest: usize)
     ensures { level.new ≡ onward level.old rest level.old.next }
 {
     level.at = level.end.saturating_sub(rest);
 }
 
-// Enters a block; the one around it will go on behind the command, where `rest` bytes follow.
+// Enters a block; the one around it will go on behind the command, where `rest` bytes follow, with the block `next`.
 fn enter(level: &mut Level, stack: &mut Stack, inner: Level, rest: usize, next: usize)
     requires { vec_len stack.old.levels < 72 }
     ensures into { level.new ≡ inner }
@@ -57,10 +54,8 @@ fn enter(level: &mut Level, stack: &mut Stack, inner: Level, rest: usize, next: 
 {
     stack.push(Level {
         at: level.end.saturating_sub(rest),
-        end: level.end,
         next,
-        context: level.context,
-        closing: level.closing,
+        ..*level
     });
     *level = inner;
 }
@@ -89,10 +84,8 @@ pub(crate) fn choose<K: FrameKind>(
         told,
     };
     let context = Context {
-        procedure: level.context.procedure,
-        own: level.context.own,
-        rights: level.context.rights,
         decisions: K::mix(level.context.decisions, told),
+        ..level.context
     };
     let inner = if test {
         block(one, middle.saturating_sub(first), middle, context, closing)
@@ -144,10 +137,8 @@ pub(crate) fn grant<K: GrantKind>(
     let number = level.next;
     let end = level.end.saturating_sub(rest);
     let context = Context {
-        procedure: level.context.procedure,
-        own: level.context.own,
         rights: K::widen(level.context.rights, K::mix(frame, level.context.own)),
-        decisions: level.context.decisions,
+        ..level.context
     };
     let inner = block(
         number,
@@ -190,7 +181,7 @@ pub(crate) fn call<K: FrameKind>(
         procedure: p,
         own,
         rights: K::mix(level.context.rights, own),
-        decisions: level.context.decisions,
+        ..level.context
     };
     let inner = body(procedure, context);
     let next = level.next;

@@ -1,5 +1,5 @@
 // What each plain command does.
-ghost use Rattle.std.specs.Prelude.{◌≡◌, ℕ, ◌+◌, ◌^◌, ◌<◌};
+ghost use Rattle.std.specs.Prelude.{◌≡◌, ℕ, ◌+◌, ◌^◌, ◌<◌, cond, Some, None, nat_lt};
 ghost use Rattle.commands.specs.Reads.{operation as operation_of, plain_of};
 ghost use Rattle.rules.specs.Values.{combine as combine_of};
 ghost use Rattle.rules.specs.Running.{State, at as place_at, place as place_of, write as written, set_to, copied, combined, pick as pick_of, put as put_of, obstacle as obstacle_of, drive as drive_of, run_plain};
@@ -14,7 +14,6 @@ use frames::{FrameKind, GrantKind};
 use layout::Table;
 use package::contents::Contents;
 use rules::{Cause, Context, Place, Trail};
-use std::option::Option;
 
 // What two values are combined to.
 fn combine(operation: Operation, a: u32, b: u32) -> u32
@@ -61,19 +60,33 @@ fn join<K: FrameKind>(
     work.write(target, Place { value, frame });
 }
 
+// The cell of a table at this index; none where it is beyond the table.
+fn cell_at(table: Table, index: u32) -> Option<usize>
+    ensures { result ≡ cond (nat_lt index table.length) (Some (table.first + index)) None }
+{
+    if index < u32::from(table.length) {
+        Some(usize::from(table.first) + index as usize)
+    } else {
+        None
+    }
+}
+
 // What a PICK at this index gives.
 fn picked<K: FrameKind>(work: &Work, context: Context, table: Table, index: u8) -> Place
     ensures { result ≡ pick_of (mixing K.FrameKind.meaning) context table (place_at (state_of work.now) index) (state_of work.now) }
 {
     let (at, frame) = work.fetch(index);
     let told = K::mix(context.own, frame);
-    if at < u32::from(table.length) {
-        let (value, held) = work.fetch_at(usize::from(table.first) + at as usize);
-        let frame = K::mix(context.decisions, K::mix(told, held));
-        Place { value, frame }
-    } else {
-        let frame = K::mix(context.decisions, told);
-        Place { value: 0, frame }
+    match cell_at(table, at) {
+        Some(cell) => {
+            let (value, held) = work.fetch_at(cell);
+            let frame = K::mix(context.decisions, K::mix(told, held));
+            Place { value, frame }
+        }
+        None => Place {
+            value: 0,
+            frame: K::mix(context.decisions, told),
+        },
     }
 }
 
@@ -84,12 +97,9 @@ fn put<K: FrameKind>(work: &mut Work, context: Context, table: Table, index: u8,
     let (value, held) = work.fetch(source);
     let told = K::mix(context.own, frame);
     lower_cells::<K>(table, told, work);
-    if at < u32::from(table.length) {
+    if let Some(cell) = cell_at(table, at) {
         let frame = K::mix(context.decisions, K::mix(told, K::mix(context.own, held)));
-        work.write_at(
-            usize::from(table.first) + at as usize,
-            Place { value, frame },
-        );
+        work.write_at(cell, Place { value, frame });
     }
 }
 
@@ -97,14 +107,9 @@ fn put<K: FrameKind>(work: &mut Work, context: Context, table: Table, index: u8,
 fn obstacle<K: GrantKind>(context: Context, need: u64, frame: u64) -> Option<(Cause, u8)>
     ensures { (v : ℕ) → result ≡ obstacle_of (mixing K.FrameKind.meaning) context need (place_of v frame) }
 {
-    if let Some(right) = K::gap(context.rights, need) {
-        return Some((Cause::Rights, right));
-    }
     let basis = K::mix(context.decisions, K::mix(context.own, frame));
-    match K::gap(basis, need) {
-        Some(right) => Some((Cause::Information, right)),
-        None => None,
-    }
+    let lacks = K::gap(context.rights, need).map(|right| (Cause::Rights, right));
+    lacks.or(K::gap(basis, need).map(|right| (Cause::Information, right)))
 }
 
 // A DRIVE at this offset of a device with this need.

@@ -1,6 +1,6 @@
 // The places and devices of a new controller.
-ghost use Rattle.std.specs.Prelude.{◌≡◌, ◌++◌, map, IfOk, OnOk};
-ghost use Rattle.rules.specs.Calls.{new_input, new_cell, new_device, new as new_of};
+ghost use Rattle.std.specs.Prelude.{◌≡◌, IfOk};
+ghost use Rattle.rules.specs.Calls.{new_input, new_cell, new as new_of};
 ghost use Rattle.running.specs.States.{held_of};
 ghost use Rattle.running.specs.Parts.{declared_by};
 ghost use Rattle.running.specs.Entries.{program_of};
@@ -23,60 +23,40 @@ fn new_input(contents: &Contents, input: Input) -> Place
     }
 }
 
-// Sets out the inputs.
-fn add_inputs(places: &mut Vec<Place>, contents: &Contents) -> Result<(), AllocError>
-    ensures { OnOk result (places.new.items ≡ places.old.items ++ map (new_input (declared_by contents.now)) contents.now.inputs.items) }
+// A cell as declared.
+fn new_cell(cell: Cell) -> Place
+    ensures { result ≡ new_cell cell }
 {
-    let inputs = contents.inputs.as_slice();
-    for input in inputs {
-        places.push(new_input(contents, *input))?;
+    Place {
+        value: cell.value,
+        frame: cell.frame,
     }
-    Ok(())
 }
 
-// Sets out the cells behind them.
-fn add_cells(places: &mut Vec<Place>, cells: &[Cell]) -> Result<(), AllocError>
-    ensures { OnOk result (places.new.items ≡ places.old.items ++ map new_cell cells.now) }
-{
-    for cell in cells {
-        places.push(Place {
-            value: cell.value,
-            frame: cell.frame,
-        })?;
-    }
-    Ok(())
-}
-
-// A device for each need, at command 0 and count 0.
-fn add_devices(devices: &mut Vec<Device>, needs: &[u64]) -> Result<(), AllocError>
-    ensures { OnOk result (devices.new.items ≡ devices.old.items ++ map new_device needs.now) }
-{
-    for _need in needs {
-        devices.push(Device {
-            command: 0,
-            count: 0,
-        })?;
-    }
-    Ok(())
-}
-
-// The places of a new controller.
+// The places of a new controller: its inputs, and its cells behind them.
 fn new_places(heap: Global, contents: &Contents) -> Result<Vec<Place>, AllocError>
     ensures { IfOk result (λ v. v.items ≡ (new_of (declared_by contents.now)).places) }
 {
-    let mut places = Vec::new(heap);
-    add_inputs(&mut places, contents)?;
-    add_cells(&mut places, &contents.cells)?;
-    Ok(places)
+    let inputs = contents
+        .inputs
+        .iter()
+        .map(|input| new_input(contents, *input));
+    let cells = contents.cells.iter().map(|cell| new_cell(*cell));
+    inputs.chain(cells).collect(heap)
 }
 
-// Its devices.
+// Its devices: one for each need, at command 0 and count 0.
 fn new_devices(heap: Global, contents: &Contents) -> Result<Vec<Device>, AllocError>
     ensures { IfOk result (λ v. v.items ≡ (new_of (declared_by contents.now)).devices) }
 {
-    let mut devices = Vec::new(heap);
-    add_devices(&mut devices, &contents.needs)?;
-    Ok(devices)
+    contents
+        .needs
+        .iter()
+        .map(|_| Device {
+            command: 0,
+            count: 0,
+        })
+        .collect(heap)
 }
 
 impl Work {

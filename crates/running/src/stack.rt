@@ -10,6 +10,7 @@ const DEEPEST: usize = 72;
 
 impl Stack {
     // An empty stack, with all the memory that it will need.
+    #[tactic(auto, unfolding(crate::specs::Levels::above))]
     pub fn new(heap: Global) -> Result<Stack, AllocError>
         ensures { IfOk result (λ s. above s ≡ []) }
     {
@@ -18,6 +19,7 @@ impl Stack {
     }
 
     // One block more.
+    #[tactic(auto, unfolding(crate::specs::Levels::above))]
     pub(crate) fn push(&mut self, level: Level)
         requires { vec_len self.old.levels < 72 }
         ensures pushed { above self.new ≡ level ∷ above self.old }
@@ -27,6 +29,7 @@ impl Stack {
     }
 
     // The innermost block.
+    #[tactic(auto, unfolding(crate::specs::Levels::above))]
     pub(crate) fn pop(&mut self) -> Option<Level>
         ensures { MatchOption result (above self.old ≡ []) (λ t. above self.old ≡ t ∷ above self.new) }
     {
@@ -34,9 +37,10 @@ impl Stack {
     }
 
     // Nothing is being run.
+    #[tactic(auto, unfolding(crate::specs::Levels::above))]
     pub(crate) fn clear(&mut self)
         ensures { above self.new ≡ [] }
     {
-        self.levels.truncate(0);
+        self.levels.clear();
     }
 }

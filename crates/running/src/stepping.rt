@@ -133,22 +133,17 @@ fn next_turn<K: FrameKind>(level: Level, turns: Turns, learned: u64) -> Level
 {
     Level {
         at: turns.start,
-        end: level.end,
         next: turns.block.saturating_add(1),
         context: Context {
-            procedure: level.context.procedure,
-            own: level.context.own,
-            rights: level.context.rights,
             decisions: K::mix(turns.decisions, learned),
+            ..level.context
         },
         closing: Closing::Loop(Turns {
-            place: turns.place,
-            block: turns.block,
-            start: turns.start,
             left: turns.left - 1,
             learned,
-            decisions: turns.decisions,
+            ..turns
         }),
+        ..level
     }
 }
 

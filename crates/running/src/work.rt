@@ -34,10 +34,10 @@ impl Work {
     pub(crate) fn fetch_at(&self, place: usize) -> (u32, u64)
         ensures { result ≡ ((place_at (state_of self.now) place).value, (place_at (state_of self.now) place).frame) }
     {
-        match self.places.items.get(place) {
-            Some(held) => (held.value, held.frame),
-            None => (0, 0),
-        }
+        self.places
+            .items
+            .get(place)
+            .map_or((0, 0), |held| (held.value, held.frame))
     }
 
     // The value and the frame of a command's operand.
@@ -51,10 +51,9 @@ impl Work {
     pub fn shown(&self, device: u8) -> (u32, u32)
         ensures { result ≡ ((device_in (held_of self.now) device).command, (device_in (held_of self.now) device).count) }
     {
-        match self.devices.get(usize::from(device)) {
-            Some(held) => (held.command, held.count),
-            None => (0, 0),
-        }
+        self.devices
+            .get(usize::from(device))
+            .map_or((0, 0), |held| (held.command, held.count))
     }
 
     // Counts a step.
@@ -69,8 +68,8 @@ impl Work {
     pub(crate) fn write_at(&mut self, target: usize, place: Place)
         ensures { state_of self.new ≡ written (state_of self.old) target place }
     {
-        if target < self.places.items.len() {
-            self.places.items[target] = place;
+        if let Some(held) = self.places.items.get_mut(target) {
+            *held = place;
         }
     }
 
@@ -85,10 +84,9 @@ impl Work {
     pub(crate) fn accept(&mut self, device: u8, command: u32)
         ensures { state_of self.new ≡ accepted (state_of self.old) device command }
     {
-        let d = usize::from(device);
-        if d < self.devices.len() {
-            let count = self.devices[d].count.saturating_add(1);
-            self.devices[d] = Device { command, count };
+        if let Some(held) = self.devices.get_mut(usize::from(device)) {
+            let count = held.count.saturating_add(1);
+            *held = Device { command, count };
         }
     }
 
@@ -98,8 +96,6 @@ impl Work {
         ensures { state_of self.new ≡ refused (state_of self.old) trail }
     {
         self.refused += 1;
-        if self.trail.is_none() {
-            self.trail = Some(trail);
-        }
+        self.trail = self.trail.or(Some(trail));
     }
 }

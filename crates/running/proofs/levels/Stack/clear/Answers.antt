@@ -1,5 +1,0 @@
-use Rattle.running.proofs.Stacks.{above_none}
-use Rattle.running.proofs.levels.Stack.clear.Goals as goal
-
-pub returns : goal.returns
-returns c = above_none _ c.truncate.ensures.items
