@@ -1,5 +1,5 @@
 #!/usr/bin/env python3
-"""Writes the example packages of the folder examples/."""
+"""Writes the example packages and the example input of the folder examples/."""
 
 from pathlib import Path
 
@@ -44,6 +44,15 @@ SMALL = joined([
     FINISH,
 ])
 
+# The station's input of the small package by rights and the walking oracle: two cycles, each with a show behind it, a
+# post of party 1 between them, and two reads.
+CYCLE, SHOW = bytes([0x11]), bytes([0x13, 0])
+STATION = (
+    bytes([0, 0]) + len(SMALL).to_bytes(2, "big") + SMALL.octets
+    + CYCLE + SHOW + bytes([0x10, 1, 1, 0, 0, 0, 1]) + CYCLE + SHOW
+    + bytes([0x12, 2, 1]) + bytes([0x12, 2, 0])
+)
+
 # A hall of four parties, with every command.
 AIRPORT, AIRLINE, HANDLER, CUSTOMS = 0, 1, 2, 3
 BAGS, HOLD, OPEN = 0, 1, 2
@@ -67,11 +76,38 @@ HALL = joined([
     FINISH,
 ])
 
+# Three rules of the airline for one diverter, of which the airport's plan chooses one: the first copies the handler's
+# figure, the second the airline's own, the third sends the own figure only where the handler does not hold.
+PORT, LINE, HANDLING = 0, 1, 2
+PLAN, CHUTE, FIGURE, HOLDS = 0, 1, 2, 3
+ONE, TWO, THREE, CHOSEN, COPIED, OWN, ASKED = 4, 5, 6, 7, 8, 9, 10
+
+
+def planned(number, rule):
+    """The airport's rule calls this rule where the plan has this number."""
+    return same(CHOSEN, PLAN, number) + when(CHOSEN, call(rule), NOTHING)
+
+
+DIVERTED = joined([
+    party(0b111), party(0b011), party(0b101),
+    input_(PORT, 0), input_(LINE, 4), input_(HANDLING, 9), input_(HANDLING, 0),
+    cell(1, 0b111), cell(2, 0b111), cell(3, 0b111), cell(0, 0b111), cell(0, 0b111), cell(0, 0b111), cell(0, 0b111),
+    device(0b010),
+    proc(LINE, copy(COPIED, FIGURE) + drive(0, COPIED)),
+    proc(LINE, copy(OWN, CHUTE) + drive(0, OWN)),
+    proc(LINE, copy(ASKED, CHUTE) + when(HOLDS, NOTHING, drive(0, ASKED))),
+    proc(PORT, planned(ONE, 0) + planned(TWO, 1) + planned(THREE, 2)),
+    entry(3),
+    FINISH,
+])
+
 if __name__ == "__main__":
     folder = Path(__file__).resolve().parent.parent / "examples"
     folder.mkdir(exist_ok=True)
     (folder / "small.package").write_bytes(SMALL.octets)
     (folder / "hall.package").write_bytes(HALL.octets)
+    (folder / "diverter.package").write_bytes(DIVERTED.octets)
+    (folder / "small.station").write_bytes(STATION)
     # One operand of the small package made an input: SET then gives input 1 a value.
     refused = bytearray(SMALL.octets)
     refused[63] = 1
