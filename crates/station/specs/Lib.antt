@@ -1,0 +1,5 @@
+pub mod Header
+pub mod Script
+pub mod Begins
+pub mod Station
+pub mod Text
