@@ -1,4 +1,6 @@
 // What each plain command does.
+// The places and the context stand beside each other in each function: the context is a block's, and only lent here, while
+// the places are the cycle's, so one struct for both would be made anew for each command and taken apart in it.
 ghost use Rattle.std.specs.Prelude.{◌≡◌, ℕ, ◌+◌, ◌^◌, ◌<◌, cond, Some, None, nat_lt};
 ghost use Rattle.commands.specs.Reads.{operation as operation_of, plain_of};
 ghost use Rattle.rules.specs.Values.{combine as combine_of};
@@ -6,7 +8,7 @@ ghost use Rattle.rules.specs.Running.{State, at as place_at, place as place_of, 
 ghost use Rattle.running.specs.States.{state_of};
 ghost use Rattle.running.specs.Parts.{mixing, declared_by};
 
-use crate::lookups::{need_of, table_at};
+use crate::lookups::table_at;
 use crate::lowering::lower_cells;
 use crate::places::Work;
 use commands::{Operation, Plain};
@@ -177,7 +179,11 @@ pub(crate) fn run_plain<K: GrantKind>(
             source,
         ),
         Plain::Drive { device, source } => {
-            let need = need_of(&contents.needs, device);
+            let need = contents
+                .needs
+                .get(usize::from(device))
+                .copied()
+                .unwrap_or(0);
             drive::<K>(work, context, offset, device, need, source);
         }
     }

@@ -197,7 +197,8 @@ fn close<A: Assembly>(
     }
 }
 
-// One turn; no where nothing is left to run.
+// One turn; no where nothing is left to run. The block is changed in place: to take it and answer the next one, or none,
+// copies two records each turn, and took more than twice as long.
 pub(crate) fn step<A: Assembly>(
     held: &Package,
     oracle: &A::Oracle,
