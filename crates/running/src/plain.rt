@@ -105,11 +105,11 @@ fn put<K: FrameKind>(work: &mut Work, context: Context, table: Table, index: u8,
     }
 }
 
-// Why a drive by a place of this frame is refused, and the right that is missing.
-fn obstacle<K: GrantKind>(context: Context, need: u64, frame: u64) -> Option<(Cause, u8)>
-    ensures { (v : ℕ) → result ≡ obstacle_of (mixing K.FrameKind.meaning) context need (place_of v frame) }
+// Why a drive by this place is refused, and the right that is missing.
+fn obstacle<K: GrantKind>(context: Context, need: u64, place: Place) -> Option<(Cause, u8)>
+    ensures { result ≡ obstacle_of (mixing K.FrameKind.meaning) context need place }
 {
-    let basis = K::mix(context.decisions, K::mix(context.own, frame));
+    let basis = K::mix(context.decisions, K::mix(context.own, place.frame));
     let lacks = K::gap(context.rights, need).map(|right| (Cause::Rights, right));
     lacks.or(K::gap(basis, need).map(|right| (Cause::Information, right)))
 }
@@ -127,7 +127,7 @@ fn drive<K: GrantKind>(
     ensures { state_of work.new ≡ drive_of (mixing K.FrameKind.meaning) context offset device need (place_at (state_of work.old) source) (state_of work.old) }
 {
     let (value, frame) = work.fetch(source);
-    match obstacle::<K>(context, need, frame) {
+    match obstacle::<K>(context, need, Place { value, frame }) {
         None => work.accept(device, value),
         Some((cause, right)) => work.refuse(Trail {
             procedure: context.procedure,
