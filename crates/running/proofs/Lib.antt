@@ -1,6 +1,5 @@
 pub mod Lowers
 pub mod Cells
-pub mod Drives
 pub mod Stacks
 pub mod Turning
 pub mod Laying

@@ -28,13 +28,6 @@ pub(crate) fn table_at(tables: &[Table], t: u8) -> Table
     tables.get(usize::from(t)).copied().unwrap_or(NO_TABLE)
 }
 
-// The need of device d; 0 where it is not declared.
-pub(crate) fn need_of(needs: &[u64], d: u8) -> u64
-    ensures { result ≡ slice_index needs.now d }
-{
-    needs.get(usize::from(d)).copied().unwrap_or(0)
-}
-
 // Procedure p; an empty one where it is not declared.
 pub(crate) fn procedure_at(procedures: &[Procedure], p: u8) -> Procedure
     ensures { result ≡ slice_index_or procedures.now p no_procedure }

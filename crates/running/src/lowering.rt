@@ -40,7 +40,8 @@ impl Places {
     }
 }
 
-// Lowers every place that the oracle names.
+// Lowers every place that the oracle names. It goes by the numbers of the places, since the oracle is asked for numbers, and
+// one place is lent at a time.
 pub(crate) fn lower_named<A: Assembly>(
     oracle: &A::Oracle,
     blocks: Blocks,

@@ -1,4 +1,6 @@
 // What each plain command does.
+// The places and the context stand beside each other in each function: the context is a block's, and only lent here, while
+// the places are the cycle's, so one struct for both would be made anew for each command and taken apart in it.
 ghost use Rattle.std.specs.Prelude.{◌≡◌, ℕ, ◌+◌, ◌^◌, ◌<◌, cond, Some, None, nat_lt};
 ghost use Rattle.commands.specs.Reads.{operation as operation_of, plain_of};
 ghost use Rattle.rules.specs.Values.{combine as combine_of};
@@ -6,7 +8,7 @@ ghost use Rattle.rules.specs.Running.{State, at as place_at, place as place_of, 
 ghost use Rattle.running.specs.States.{state_of};
 ghost use Rattle.running.specs.Parts.{mixing, declared_by};
 
-use crate::lookups::{need_of, table_at};
+use crate::lookups::table_at;
 use crate::lowering::lower_cells;
 use crate::places::Work;
 use commands::{Operation, Plain};
@@ -103,11 +105,11 @@ fn put<K: FrameKind>(work: &mut Work, context: Context, table: Table, index: u8,
     }
 }
 
-// Why a drive by a place of this frame is refused, and the right that is missing.
-fn obstacle<K: GrantKind>(context: Context, need: u64, frame: u64) -> Option<(Cause, u8)>
-    ensures { (v : ℕ) → result ≡ obstacle_of (mixing K.FrameKind.meaning) context need (place_of v frame) }
+// Why a drive by this place is refused, and the right that is missing.
+fn obstacle<K: GrantKind>(context: Context, need: u64, place: Place) -> Option<(Cause, u8)>
+    ensures { result ≡ obstacle_of (mixing K.FrameKind.meaning) context need place }
 {
-    let basis = K::mix(context.decisions, K::mix(context.own, frame));
+    let basis = K::mix(context.decisions, K::mix(context.own, place.frame));
     let lacks = K::gap(context.rights, need).map(|right| (Cause::Rights, right));
     lacks.or(K::gap(basis, need).map(|right| (Cause::Information, right)))
 }
@@ -125,7 +127,7 @@ fn drive<K: GrantKind>(
     ensures { state_of work.new ≡ drive_of (mixing K.FrameKind.meaning) context offset device need (place_at (state_of work.old) source) (state_of work.old) }
 {
     let (value, frame) = work.fetch(source);
-    match obstacle::<K>(context, need, frame) {
+    match obstacle::<K>(context, need, Place { value, frame }) {
         None => work.accept(device, value),
         Some((cause, right)) => work.refuse(Trail {
             procedure: context.procedure,
@@ -177,7 +179,11 @@ pub(crate) fn run_plain<K: GrantKind>(
             source,
         ),
         Plain::Drive { device, source } => {
-            let need = need_of(&contents.needs, device);
+            let need = contents
+                .needs
+                .get(usize::from(device))
+                .copied()
+                .unwrap_or(0);
             drive::<K>(work, context, offset, device, need, source);
         }
     }

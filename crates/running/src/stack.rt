@@ -1,4 +1,5 @@
-// The stack of blocks.
+// The stack of blocks. The block that is being run stands beside it and not in it: a new stack would have to hold one that
+// is no block. That there is room for one more is asked of each caller, and no fact of every stack: a full one has none.
 ghost use Rattle.std.specs.Prelude.{◌≡◌, ℕ, ◌+◌, ◌<◌, [], ◌∷◌, IfOk, vec_len, MatchOption};
 ghost use Rattle.running.specs.Levels.{above};
 

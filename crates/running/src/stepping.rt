@@ -197,7 +197,9 @@ fn close<A: Assembly>(
     }
 }
 
-// One turn; no where nothing is left to run.
+// One turn; no where nothing is left to run. The block is changed in place: to take it and answer the next one, or none,
+// was tried, and took more than twice as long.
+#[tactic(auto, unfolding(crate::specs::Levels::turn_of))]
 pub(crate) fn step<A: Assembly>(
     held: &Package,
     oracle: &A::Oracle,

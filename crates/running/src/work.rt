@@ -56,7 +56,7 @@ impl Work {
             .map_or((0, 0), |held| (held.command, held.count))
     }
 
-    // Counts a step.
+    // Counts a step. That the count fits is asked of each caller: it hangs on what is left to run, and no field holds that.
     pub(crate) fn tick(&mut self)
         requires { self.old.steps + 1 < 2 ^ 32 }
         ensures { state_of self.new ≡ ticked (state_of self.old) }
