@@ -3,3 +3,4 @@ pub mod Script
 pub mod Begins
 pub mod Station
 pub mod Text
+pub mod Laws

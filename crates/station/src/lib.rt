@@ -26,6 +26,7 @@ use std::alloc::{AllocError, Global};
 mod header;
 pub mod lines;
 mod script;
+pub mod theorems;
 
 // No input has more bytes.
 const LONGEST: usize = 32_768;
