@@ -30,6 +30,7 @@ pub record LawfulProcedure (c : Contents) (k n : ℕ) (p : Procedure) (b : Block
   pub party : p.party < length c.parties
   pub body : KeepsBlock (below c k) 0 n p.start b
   pub long : p.length ≡ length (encode_block b)
+  pub number : p.block ≡ n
   pub height : p.height ≡ 1 + highest_block (below c k).heights b
   pub low : p.height ≤ 8
   pub steps : p.steps ≡ most_block (below c k).steps b

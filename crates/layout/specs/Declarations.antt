@@ -109,6 +109,7 @@ procedure s at p b = record {
   party = p;
   start = at + proc_head;
   length = length (encode_block b);
+  block = length s.spans;
   height = 1 + highest_block (heights s) b;
   steps = most_block (body_steps s) b;
 }

@@ -25,13 +25,14 @@ pub struct Table {
     pub length: u8,
 }
 
-// A procedure: the party that owns it, where its body lies in the package, its height, and the most steps of its body.
-// Its height is 1 more than that of the highest procedure that it calls.
+// A procedure: the party that owns it, where its body lies in the package, the number of its body as a block, its
+// height, and the most steps of its body. Its height is 1 more than that of the highest procedure that it calls.
 #[derive(Clone, Copy, Debug, PartialEq, Eq)]
 pub struct Procedure {
     pub party: u8,
     pub start: usize,
     pub length: usize,
+    pub block: usize,
     pub height: u8,
     pub steps: u64,
 }

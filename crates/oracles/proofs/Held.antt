@@ -28,7 +28,7 @@ by_item xs i None h m none some = none h.3 m
 by_item xs i (Some x) h m none some = some x h.3.0 (h.3.1 x.now) m
 
 no_procedure : Procedure
-no_procedure = record { party = 0; start = 0; length = 0; height = 0; steps = 0 }
+no_procedure = record { party = 0; start = 0; length = 0; block = 0; height = 0; steps = 0 }
 
 module _ (h : Package) where
   abbrev P : Program

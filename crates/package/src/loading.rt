@@ -100,6 +100,7 @@ fn add_procedure(contents: &mut Contents, party: u8, body: &[u8], at: usize) -> 
         devices,
         procedures: &contents.procedures,
     };
+    let block = contents.blocks.len();
     let cost = check_body(body, scope, at + 4, &mut contents.blocks)?;
     if cost.steps > 1_000_000 {
         return Err(Refusal::Fault(Fault::TooManySteps, at));
@@ -108,6 +109,7 @@ fn add_procedure(contents: &mut Contents, party: u8, body: &[u8], at: usize) -> 
         party,
         start: at + 4,
         length: body.len(),
+        block,
         height: cost.highest + 1,
         steps: cost.steps,
     };

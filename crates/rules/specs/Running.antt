@@ -177,7 +177,7 @@ module _ (A : Assembly) where
 -- ---- what is declared
 
 abbrev pub no_procedure : Procedure
-no_procedure = record { party = 0; start = 0; length = 0; height = 0; steps = 0 }
+no_procedure = record { party = 0; start = 0; length = 0; block = 0; height = 0; steps = 0 }
 
 -- the need of device d
 abbrev pub need_of : Program → ℕ → ℕ

@@ -85,6 +85,7 @@ fn write_procedure<W: fmt::Write>(
         length,
         height,
         steps,
+        ..
     } = procedure;
     write!(
         f,
