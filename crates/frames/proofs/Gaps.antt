@@ -10,7 +10,7 @@ use Rattle.frames.specs.Kinds.{Kind, Lawful, lacks, gap, Covers}
 -- ---- the lowest of k numbers, from i on, that passes a test
 
 module _ (f : ℕ → Bool) where
-  found : (k i g : ℕ) → i ≤ g → g < i + k → f g ≡ true → ((q : ℕ) → i ≤ q → q < g → f q ≡ false) → find f (range_with_len i k) ≡ Some g
+  pub found : (k i g : ℕ) → i ≤ g → g < i + k → f g ≡ true → ((q : ℕ) → i ≤ q → q < g → f q ≡ false) → find f (range_with_len i k) ≡ Some g
   found zero i g h l e low = absurd (omega arith)
   found (suc k) i g h l e low =
       ⊎_elim
@@ -18,18 +18,18 @@ module _ (f : ℕ → Bool) where
       (λ (m : g ≤ i). let p : g ≡ i = omega arith in cond-true _ _ _ (subst (λ (x : ℕ). f x ≡ true) p e) ∙ ap (λ (x : ℕ). Some x) (sym p))
       (cases_lt i g)
 
-  none_found : (k i : ℕ) → ((q : ℕ) → i ≤ q → q < i + k → f q ≡ false) → find f (range_with_len i k) ≡ None
+  pub none_found : (k i : ℕ) → ((q : ℕ) → i ≤ q → q < i + k → f q ≡ false) → find f (range_with_len i k) ≡ None
   none_found zero i h = refl
   none_found (suc k) i h = cond-false _ _ _ (h i (omega arith) (omega arith)) ∙ none_found k (i + 1) (λ q l m. h q (omega arith) (omega arith))
 
-  none_passes : (k i : ℕ) → find f (range_with_len i k) ≡ None → (q : ℕ) → i ≤ q → q < i + k → f q ≡ false
-  none_passes zero i e q h l = absurd (omega arith)
-  none_passes (suc k) i e q h l =
+  pub no_lower : (k i : ℕ) → find f (range_with_len i k) ≡ None → (q : ℕ) → i ≤ q → q < i + k → f q ≡ false
+  no_lower zero i e q h l = absurd (omega arith)
+  no_lower (suc k) i e q h l =
       ⊎_elim
       (λ t. absurd (none-some i (sym e ∙ cond-true _ _ _ t)))
       (λ t.
       ⊎_elim
-      (λ (m : i < q). none_passes k (i + 1) (sym (cond-false _ _ _ t) ∙ e) q (omega arith) (omega arith))
+      (λ (m : i < q). no_lower k (i + 1) (sym (cond-false _ _ _ t) ∙ e) q (omega arith) (omega arith))
       (λ (m : q ≤ i). let p : i ≡ q = omega arith in subst (λ (x : ℕ). f x ≡ false) p t)
       (cases_lt i q))
       (cases_Bool (f i))
@@ -57,7 +57,7 @@ pub gap_covers : (K : Kind) → Lawful K → (a b : ℕ) → gap K a b ≡ None 
 unfolding gap
 gap_covers K L a b e q h =
     ⊎_elim
-    (λ (l : q < 64). held _ _ (none_passes (lacks K a b) 64 0 e q (omega arith) l) h)
+    (λ (l : q < 64). held _ _ (no_lower (lacks K a b) 64 0 e q (omega arith) l) h)
     (λ (l : 64 ≤ q). clash _ h (L.no_more b q l))
     (cases_lt q 64)
 
@@ -65,3 +65,12 @@ gap_covers K L a b e q h =
 pub told : {g : Option ℕ} {t : Bool} {x : ℕ} (r : Option ℕ) → is_some r ≡ t → IfSome r (λ y. y ≡ x) → (t ≡ true → Some x ≡ g) → (t ≡ false → None ≡ g) → r ≡ g
 told None e h some none = none (sym e)
 told (Some y) e h some none = ap (λ (z : ℕ). Some z) h ∙ some (sym e)
+
+-- an answer that is none exactly where a test passes
+pub none_of : (r : Option ℕ) (b : Bool) → is_some r ≡ not b → b ≡ true → r ≡ None
+none_of None b h e = refl
+none_of (Some x) b h e = clash _ (sym h) (ap not e)
+
+pub of_none : (r : Option ℕ) (b : Bool) → is_some r ≡ not b → r ≡ None → b ≡ true
+of_none r true h e = refl
+of_none r false h e = clash _ h (ap is_some e)

@@ -1,11 +1,16 @@
 -- The laws of the rights kind.
-use Rattle.std.proofs.Common.{arith}
+use Rattle.std.proofs.Common.{◌≡◌, ℕ, ◌<◌, Bool, ◌&&◌, ◌==◌, ap, arith}
+use Rattle.std.specs.Int.{bit_at}
 use Rattle.std.specs.Int.Bits.{bit_or}
-use Rattle.std.proofs.lemmas.Bool.{and_left, le-ltb}
+use Rattle.std.proofs.lemmas.Bool.{and_left, lt-ltb, le-ltb}
 use Rattle.std.proofs.lemmas.Bool.Decides.{nat_tests}
 use Rattle.std.proofs.lemmas.Nat.Bits.{bit_at-lt, bit_at_and, bit_at_or, bit_at_ones}
 use Rattle.frames.specs.Kinds.{Lawful, Widens}
 use Rattle.frames.specs.Rights.{rights}
+
+-- a right below 64 is held where its bit is set
+pub held_at : (a q : ℕ) → q < 64 → rights.holds a q ≡ (bit_at a q == 1)
+held_at a q h = ap (λ (x : Bool). x && bit_at a q == 1) (lt-ltb q 64 h)
 
 pub rights_lawful : Lawful rights
 rights_lawful = record {

@@ -41,7 +41,7 @@ bodies_joined held before headed-by after n i bytes ps c h same nn ii bb pp t =
     rw (told, h, count, ins, procs, append_assoc)
 
 -- all lines, one sort after the other
-all_joined : {X : Type 0} (l0 l1 l2 l3 l4 l5 l6 l7 a b c d e f g : List X) → l0 ≡ [] → l1 ≡ l0 ++ a → l2 ≡ l1 ++ b → l3 ≡ l2 ++ c → l4 ≡ l3 ++ d → l5 ≡ l4 ++ e → l6 ≡ l5 ++ f → l7 ≡ l6 ++ g → l7 ≡ a ++ (b ++ (c ++ (d ++ (e ++ (f ++ g)))))
+pub all_joined : {X : Type 0} (l0 l1 l2 l3 l4 l5 l6 l7 a b c d e f g : List X) → l0 ≡ [] → l1 ≡ l0 ++ a → l2 ≡ l1 ++ b → l3 ≡ l2 ++ c → l4 ≡ l3 ++ d → l5 ≡ l4 ++ e → l6 ≡ l5 ++ f → l7 ≡ l6 ++ g → l7 ≡ a ++ (b ++ (c ++ (d ++ (e ++ (f ++ g)))))
 all_joined l0 l1 l2 l3 l4 l5 l6 l7 a b c d e f g h0 h1 h2 h3 h4 h5 h6 h7 = rw (h7, h6, h5, h4, h3, h2, h1, h0) (simp append_assoc)
 
 pub listed_joined : (held : Package) (x : code.Contents) (ps ns es : List ℕ) (ts : List Table) (l0 l1 l2 l3 l4 l5 l6 l7 : List Line) → x ≡ held.contents → l0 ≡ [] → ps ≡ vec_items x.parties → l1 ≡ l0 ++ section Parties (λ n y. line.Party n y) ps → l2 ≡ l1 ++ place_lines (contents_of x) → ts ≡ vec_items x.tables → l3 ≡ l2 ++ section Tables (λ n y. line.Table n y) ts → ns ≡ vec_items x.needs → l4 ≡ l3 ++ section Devices (λ n y. line.Device n y) ns → l5 ≡ l4 ++ body_lines (contents (tree_of held)) (bodies (tree_of held)) → es ≡ vec_items x.entries → l6 ≡ l5 ++ section Entries (λ n y. line.Entry n y) es → l7 ≡ l6 ++ (line.Cycle x.steps ∷ []) → l7 ≡ listed (contents (tree_of held)) (bodies (tree_of held))

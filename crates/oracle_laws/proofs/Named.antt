@@ -8,10 +8,10 @@ use Rattle.layout.specs.Tree.{Command, plain_command, choose_block, loop_block, 
 use Rattle.layout.specs.Declarations.{Declaration}
 use Rattle.layout.specs.Packages.{Keeps}
 use Rattle.layout.specs.Program.{Program, program, body, no_block}
-use Rattle.oracle_laws.specs.Blocks.{number, commands, block, EachIn}
+use Rattle.oracle_laws.specs.Blocks.{number, commands, blocks, block, EachIn}
 use Rattle.oracle_laws.specs.Sets.{Sets, assigns, runs, Within, Lawful}
 use Rattle.oracle_laws.proofs.Every.{EveryIn, EveryCommands, EveryBlock, each_joined}
-use Rattle.oracle_laws.proofs.Standing.{Placed, body_stands, placed_body, placed_block}
+use Rattle.oracle_laws.proofs.Standing.{Placed, block_number, body_stands, placed_body, placed_block}
 
 -- for block n are named the targets of a command, and all that is named for the blocks that it runs
 abbrev pub Named : Program → Sets → ℕ → Command → Type 0
@@ -61,3 +61,13 @@ module _ (ds : List Declaration) (kept : Keeps ds) (names : Sets) (law : Lawful 
 
   pub named_commands : (n : ℕ) → NamedCommands P names n (commands (block P n))
   named_commands n = of_placed P names law n (block P n) (named_at P names law n) (placed_block ds kept n)
+
+  pub named_whole : (n : ℕ) → NamedBlock P names (block P n)
+  named_whole n =
+      ⊎_elim
+      (λ (l : n < length (blocks P)). by_number (block P n) n (block_number ds kept n l) (named_commands n))
+      (λ (l : length (blocks P) ≤ n). subst (NamedBlock P names) (sym (get_or_past (blocks P) n no_block l)) tt)
+      (cases_lt n (length (blocks P)))
+    where
+      by_number : (b : Block) (m : ℕ) → number b ≡ m → NamedCommands P names m (commands b) → NamedBlock P names b
+      by_number (numbered_block i cs) m e h = subst (λ (j : ℕ). NamedCommands P names j cs) (sym e) h

@@ -102,6 +102,48 @@ module _ (all : List Block) where
       let m : length (us ++ entered b) ≡ n + size_block b = omega (arith, length-append us (entered b), length-entered b) in
       All-cons (λ b. Stands b × EveryBlock Stand b) b bs (stand_block (below c k) b 0 n p.start us (entered_all bs) e l h.0.body) (stand_bodies c (k + 1) (n + size_block b) ps bs (us ++ entered b) f m h.1)
 
+-- blocks numbered one after another, from n on
+abbrev Numbered : ℕ → List Block → Type 0
+Numbered n [] = Unit {0}
+Numbered n (b ∷ bs) = (number b ≡ n) × Numbered (n + 1) bs
+
+numbered-append : (n m : ℕ) (us vs : List Block) → n + length us ≡ m → Numbered n us → Numbered m vs → Numbered n (us ++ vs)
+numbered-append n m [] vs e h k = let z : m ≡ n = omega arith in subst (λ (i : ℕ). Numbered i vs) z k
+numbered-append n m (b ∷ us) vs e h k = (h.0, numbered-append (n + 1) m us vs (omega arith) h.1 k)
+
+numbered_at : (n : ℕ) (bs : List Block) (k : ℕ) → k < length bs → Numbered n bs → number (get_or bs k no_block) ≡ n + k
+numbered_at n [] k l h = absurd (omega arith)
+numbered_at n (b ∷ bs) zero l h = omega (arith, h.0)
+numbered_at n (b ∷ bs) (suc k) l h = let r = numbered_at (n + 1) bs k (omega arith) h.1 in omega arith
+
+module _ (w : Scope) where
+  mutual
+    numbered_in : (c : Command) (d n at : ℕ) → limits.Keeps w d n at c → Numbered n (inside c)
+    numbered_in (plain_command o c) d n at k = tt
+    numbered_in (choose_block c b e) d n at k =
+        let l = length-entered b in
+        numbered-append n (n + size_block b) (entered b) (entered e) (omega arith) (numbered_by_block b (d + 1) n (at + choice_head c) k.1) (numbered_by_block e (d + 1) (n + size_block b) (at + choice_head c + length (encode_block b)) k.2)
+    numbered_in (loop_block a t b) d n at k = numbered_by_block b (d + 1) n (at + loop_head) k.1
+    numbered_in (grant_block g b) d n at k = numbered_by_block b (d + 1) n (at + grant_head) k.1
+    numbered_in (call_procedure p) d n at k = tt
+
+    numbered_all : (cs : Commands) (d n at : ℕ) → KeepsCommands w d n at cs → Numbered n (inside_commands cs)
+    numbered_all no_commands d n at k = tt
+    numbered_all (then_command c cs) d n at k =
+        let l = length-inside c in
+        numbered-append n (n + size c) (inside c) (inside_commands cs) (omega arith) (numbered_in c d n at k.0) (numbered_all cs d (n + size c) (at + length (command_bytes (flat c))) k.1)
+
+    numbered_by_block : (b : Block) (d n at : ℕ) → KeepsBlock w d n at b → Numbered n (entered b)
+    numbered_by_block (numbered_block i cs) d n at k = (k.0, numbered_all cs d (n + 1) at k.1)
+
+numbered_bodies : (c : Contents) (k n : ℕ) (ps : List Procedure) (bs : List Block) → LawfulProcedures c k n ps bs → Numbered n (entered_all bs)
+numbered_bodies c k n [] [] h = tt
+numbered_bodies c k n [] (b ∷ bs) h = absurd h
+numbered_bodies c k n (p ∷ ps) [] h = absurd h
+numbered_bodies c k n (p ∷ ps) (b ∷ bs) h =
+    let l = length-entered b in
+    numbered-append n (n + size_block b) (entered b) (entered_all bs) (omega arith) (numbered_by_block (below c k) b 0 n p.start h.0.body) (numbered_bodies c (k + 1) (n + size_block b) ps bs h.1)
+
 -- what a body may name, its commands name
 module _ (w : Scope) where
   abbrev Names : ℕ → Command → Type 0
@@ -128,7 +170,7 @@ abbrev pub NamesBelow : Contents → ℕ → ℕ → Command → Type 0
 NamesBelow c k n x = named (below c k) (flat x) ≡ true
 
 -- what holds of each lawful procedure and its body holds of each body by its number, also of one that is not there
-by_procedure_from : (c : Contents) (Q : ℕ → Block → Type 0) → ((k : ℕ) → Q k no_block) → ((k n at : ℕ) (b : Block) → KeepsBlock (below c k) 0 n at b → Q k b) → (k n : ℕ) (ps : List Procedure) (bs : List Block) → LawfulProcedures c k n ps bs → (p : ℕ) → Q (k + p) (get_or bs p no_block)
+pub by_procedure_from : (c : Contents) (Q : ℕ → Block → Type 0) → ((k : ℕ) → Q k no_block) → ((k n at : ℕ) (b : Block) → KeepsBlock (below c k) 0 n at b → Q k b) → (k n : ℕ) (ps : List Procedure) (bs : List Block) → LawfulProcedures c k n ps bs → (p : ℕ) → Q (k + p) (get_or bs p no_block)
 by_procedure_from c Q none one k n [] [] h p = none (k + p)
 by_procedure_from c Q none one k n [] (b ∷ bs) h p = absurd h
 by_procedure_from c Q none one k n (q ∷ ps) [] h p = absurd h
@@ -208,6 +250,11 @@ module _ (ds : List Declaration) (kept : Keeps ds) where
   -- the body of each procedure stands at its number
   pub body_stands : (p : ℕ) → p < length P.bodies → block P (number (body P p)) ≡ body P p
   body_stands p l = (All-get_or (λ b. (block P (number b) ≡ b) × EveryBlock (Placed P) b) P.bodies p no_block l stand).0
+
+  -- block n has the number n
+  pub block_number : (n : ℕ) → n < length (blocks P) → number (block P n) ≡ n
+  block_number n l =
+      let r = numbered_at 0 (blocks P) n l (numbered_bodies P.contents 0 0 P.contents.procedures P.bodies laws.procedures) in omega arith
 
   -- each block inside a body, or inside any other block, stands at its number
   placed_bodies : All (EveryBlock (Placed P)) P.bodies

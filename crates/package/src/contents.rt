@@ -4,12 +4,12 @@ ghost use Rattle.layout.specs.Declarations.{nothing};
 ghost use Rattle.package.specs.Declares.{contents_of};
 
 use layout::{Cell, Input, Procedure, Span, Table};
-use std::alloc::Global;
+use std::alloc::{AllocError, Global};
 
 // The declarations of a package by their sorts, each numbered from 0 in its order.
 // Inputs and cells stand in one row of places, the inputs first. Other crates read the fields, so contracts see them
 // through one function, `contents_of`, and no model hides them.
-#[derive(Clone, Drop)]
+#[derive(Drop)]
 pub struct Contents {
     // The frame of each party: the rights that it holds.
     pub parties: Vec<u64>,
@@ -50,5 +50,26 @@ impl Contents {
         ensures { result ≡ vec_len self.now.inputs + vec_len self.now.cells }
     {
         self.inputs.len() + self.cells.len()
+    }
+}
+
+// The same declarations once more. Each sort is copied in one piece: what a derive writes goes item by item, which took
+// up to two thirds more time.
+impl Clone for Contents {
+    ghost is_clone = { λ c d. contents_of d ≡ contents_of c };
+
+    fn clone(&self) -> Result<Contents, AllocError> {
+        let heap = *self.parties.allocator();
+        Ok(Contents {
+            parties: Vec::from_slice(heap, &self.parties)?,
+            inputs: Vec::from_slice(heap, &self.inputs)?,
+            cells: Vec::from_slice(heap, &self.cells)?,
+            tables: Vec::from_slice(heap, &self.tables)?,
+            needs: Vec::from_slice(heap, &self.needs)?,
+            procedures: Vec::from_slice(heap, &self.procedures)?,
+            entries: Vec::from_slice(heap, &self.entries)?,
+            blocks: Vec::from_slice(heap, &self.blocks)?,
+            steps: self.steps,
+        })
     }
 }

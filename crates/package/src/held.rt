@@ -40,7 +40,7 @@ impl Clone for Package {
 
     fn clone(&self) -> Result<Package, AllocError> {
         Ok(Package {
-            bytes: self.bytes.clone()?,
+            bytes: Vec::from_slice(*self.bytes.allocator(), &self.bytes)?,
             contents: self.contents.clone()?,
         })
     }

@@ -1,12 +1,12 @@
 // The cases, read from their text.
 ghost use Rattle.std.specs.Prelude.{◌≡◌, ◌<◌, IfSome, IfOk, IfErr};
+ghost use Rattle.std.specs.List.{AllPass};
 ghost use Rattle.hex.specs.Hex.{decode_of};
-ghost use Rattle.package.specs.Faults.{number as number_of};
+ghost use Rattle.package_cases.specs.Letters.{no_small_letter};
 
-use super::answer::Answer;
+use super::answer::{Answer, Refused};
 use super::stop::Stop;
 use hex::FromHexError;
-use package::refusal::{Fault, Refusal};
 use std::alloc::Global;
 
 // A package and what loading it has to answer.
@@ -44,27 +44,40 @@ fn lines_of<'a>(text: &'a str) -> Option<Lines<'a>> {
 // The answer of these two numbers: 0 and a length, or a refusal's number and offset. A refusal has a number, so want of
 // memory, which has none, is never expected.
 fn expected_of(text: &str) -> Option<Answer>
-    ensures { IfSome result (λ a. IfErr a.0 (λ e. 0 < number_of e)) }
+    ensures { IfSome result (λ a. IfErr a.0 (λ e. 0 < e.number)) }
 {
     let (number, figure) = text.split_once(" ")?;
     let number = number.parse::<u8>().ok()?;
     let figure = figure.parse::<usize>().ok()?;
-    if number == 0 {
-        return Some(Answer(Ok(figure)));
-    }
-    let fault = Fault::try_from(number).ok()?;
-    Some(Answer(Err(Refusal::Fault(fault, figure))))
+    Some(Answer(match number {
+        0 => Ok(figure),
+        _ => Err(Refused {
+            number,
+            offset: figure,
+        }),
+    }))
 }
 
-// The bytes that a text writes, two digits to a byte, 0 to 9 and A to F.
-fn bytes_of<'a>(heap: Global, text: &str, unreadable: Stop<'a>) -> Result<Vec<u8>, Stop<'a>>
-    ensures { IfOk result (λ bytes. decode_of text.now ≡ Ok bytes.items) }
+// Whether a byte is no small letter, which hexadecimal could have and a case has not.
+fn is_no_small_letter(byte: u8) -> bool
+    ensures { result ≡ no_small_letter byte }
 {
-    if text.bytes().any(|byte| byte.is_ascii_lowercase()) {
+    !byte.is_ascii_lowercase()
+}
+
+// The bytes that a text writes, two digits to a byte, 0 to 9 and A to F. Where memory is wanting, the digits are looked at
+// all the same: a text that writes no bytes has to be told, however long it is.
+fn bytes_of<'a>(heap: Global, text: &str, unreadable: Stop<'a>) -> Result<Vec<u8>, Stop<'a>>
+    ensures capital { IfOk result (λ _. AllPass no_small_letter text.now) }
+    ensures value { IfOk result (λ bytes. decode_of text.now ≡ Ok bytes.items) }
+{
+    if !text.bytes().all(is_no_small_letter) {
         return Err(unreadable);
     }
     hex::decode(heap, text).map_err(|error| match error {
-        FromHexError::OutOfMemory => Stop::NoMemory,
+        FromHexError::OutOfMemory if text.bytes().all(|byte| byte.is_ascii_hexdigit()) => {
+            Stop::NoMemory
+        }
         _ => unreadable,
     })
 }

@@ -1,5 +1,5 @@
 -- A relation that holds, position by position, of two lists of one length.
-use Rattle.std.proofs.Common.{ℕ, zero, suc, List, [], ◌∷◌, get_or, set}
+use Rattle.std.proofs.Common.{◌≡◌, ℕ, zero, suc, List, [], ◌∷◌, length, get_or, set, refl, ap}
 
 abbrev pub Each : {X : Type 0} → (ℕ → X → X → Type 0) → List X → List X → Type 0
 Each Q [] [] = Unit {0}
@@ -64,6 +64,12 @@ module _ {X : Type 0} where
   pub each_set_left : (Q : ℕ → X → X → Type 0) (xs ys : List X) (i : ℕ) (a : X) → Each Q xs ys → ((x y : X) → Q i x y → Q i a y) → Each Q (set xs i a) ys
   each_set_left Q xs ys i a h k =
       each_flip (λ j y x. Q j x y) ys (set xs i a) (each_set_right (λ j y x. Q j x y) ys xs i a (each_flip Q xs ys h) (λ y x. k x y))
+
+  pub each_length : (Q : ℕ → X → X → Type 0) (xs ys : List X) → Each Q xs ys → length xs ≡ length ys
+  each_length Q [] [] h = refl
+  each_length Q [] (y ∷ ys) h = elim h [ ]
+  each_length Q (x ∷ xs) [] h = elim h [ ]
+  each_length Q (x ∷ xs) (y ∷ ys) h = ap suc (each_length (λ i. Q (suc i)) xs ys h.1)
 
   pub each_self : (Q : ℕ → X → X → Type 0) (d : X) (xs : List X) → ((i : ℕ) → Q i (get_or xs i d) (get_or xs i d)) → Each Q xs xs
   each_self Q d [] h = tt
