@@ -53,8 +53,8 @@ impl Contents {
     }
 }
 
-// The same declarations once more. Each sort is copied in one piece: what a derive writes goes item by item, which took
-// up to two thirds more time.
+// The same declarations once more. Each sort is copied in one piece: what a derive writes goes item by item, which cost
+// `Package::clone` up to a third more instructions.
 impl Clone for Contents {
     ghost is_clone = { λ c d. contents_of d ≡ contents_of c };
 
